@@ -1,0 +1,22 @@
+-- The laws, in the order in which they build on each other.
+pub mod Rounding
+pub mod Units
+pub mod NonNegative
+pub mod Shares
+pub mod Monotone
+pub mod Error
+pub mod SignedPoly
+pub mod Expression
+pub mod WholeRoot
+pub mod RootDigits
+pub mod RootBits
+pub mod RootGuess
+pub mod NearestRoot
+pub mod Samples
+pub mod FloatBits
+pub mod Every
+pub mod Ceiling
+pub mod Direction
+pub mod LocalBasis
+pub mod UnitVector
+pub mod Interpolation

@@ -1,0 +1,50 @@
+-- Document 01's starred samples about this crate (`Samples` of specs/Samples.antt), and roots
+-- that are known from elsewhere: each is computed from the definitions.
+use mathlib.Core.Path.{_≡_, refl}
+use mathlib.Core.Bool.{false, _&&_}
+use mathlib.Core.List.{List}
+use lib.Dec.{T, eqb}
+use lib.IntN.{pos, negsuc}
+use lib.ListN.{length}
+use lib.Ieee.Bits.{is-true}
+use lib.Ieee.{Float, fin, binary32, binary64, add, sub, mul, div, lt, le, eq, ofInt, toUnsigned, toBits}
+use Rattle.numbers.specs.Float.{decimal, f2, within}
+use Rattle.numbers.specs.SquareRoot.{squareRoot}
+use Rattle.numbers.specs.DenseSpectrum.{denseSamples, allFinite, sampleOne, sampleOneAt, upperPoint, upperLambda, upperWeight, ceiling, interpolate, isLookupWavelength, isWavelength}
+use Rattle.numbers.specs.Refusal.{refused}
+use Rattle.numbers.specs.Checked.{lookup}
+use Rattle.numbers.specs.Samples.{Samples}
+
+-- entries that a lookup accepts, at a wavelength outside the range
+outside : (values : List Float) (lambda : Float) → T (eqb (length values) denseSamples && allFinite values)
+    → isLookupWavelength lambda ≡ false → lookup values lambda ≡ refused 4
+unfolding lookup
+outside values lambda h e = rw (is-true (eqb (length values) denseSamples && allFinite values) h, e)
+
+pub samples : Samples
+unfolding sampleOne sampleOneAt upperPoint upperLambda upperWeight ceiling interpolate isLookupWavelength isWavelength within decimal squareRoot add sub mul div lt le eq ofInt toUnsigned
+samples = record {
+  at-360 = λ (rest : List Float). refl;
+  at-362-and-a-half = λ (rest : List Float). refl;
+  at-365 = λ (rest : List Float). refl;
+  at-0 = λ (values : List Float). refl;
+  at-830 = λ (values : List Float). refl;
+  past-830 = λ (values : List Float) h. outside values (fin false 7300757208432641 (negsuc 42)) h refl;
+  at-359 = λ (values : List Float) h. outside values (decimal 359 1) h refl;
+  root-of-4 = refl;
+  root-of-least = refl;
+  root-of-minus-0 = refl;
+}
+
+-- ---- roots by their bit patterns: of 2, of the largest value, and of 2 in binary32
+root-of-2 : toBits binary64 (squareRoot binary64 f2) ≡ 0x3ff6_a09e_667f_3bcd
+unfolding squareRoot toBits
+root-of-2 = refl
+
+root-of-largest : toBits binary64 (squareRoot binary64 (fin false 9007199254740991 (pos 971))) ≡ 0x5fef_ffff_ffff_ffff
+unfolding squareRoot toBits
+root-of-largest = refl
+
+root-of-2-in-binary32 : toBits binary32 (squareRoot binary32 f2) ≡ 0x3fb5_04f3
+unfolding squareRoot toBits
+root-of-2-in-binary32 = refl

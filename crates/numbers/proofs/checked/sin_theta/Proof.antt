@@ -1,0 +1,23 @@
+-- `numbers::checked::sin_theta` meets its contract: each answer is the definition's, by the tests on the way.
+use borrow.Author.Needs.{needs}
+use Rattle.numbers.specs.Checked.{ofDirection, floatAnswer}
+use Rattle.numbers.specs.Refusal.{number}
+use Rattle.numbers.proofs.checked.sin_theta.Statement.{statement}
+use Rattle.numbers.proofs.checked.sin_theta.Tie as tie
+
+is-direction-requires : tie.Need-is-direction-requires
+is-direction-requires c κs = search needs
+
+sin-theta-requires : tie.Need-sin-theta-requires
+sin-theta-requires c κs = search needs
+
+returns : tie.Need-returns
+unfolding ofDirection floatAnswer number
+returns c = rw (← c .before .before .is-direction .ensures, c .before .if1 .taken, ← c .sin-theta .ensures)
+
+returns-2 : tie.Need-returns-2
+unfolding ofDirection floatAnswer number
+returns-2 c = rw (← c .before .is-direction .ensures, c .if1 .left)
+
+pub sin-theta-spec : {M : Type 1} → statement M
+sin-theta-spec = tie.close (tie.spec is-direction-requires sin-theta-requires returns returns-2)

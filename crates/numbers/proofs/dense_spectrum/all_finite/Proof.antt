@@ -1,0 +1,50 @@
+-- `numbers::dense_spectrum::all_finite` meets its contract: the entries before i are finite, so the rest decides. The measure is what is left of the list.
+use Prim.Native.Nat.{_-_}
+use native.Mathlib.Omega.{arith}
+use mathlib.Core.Path.{sym, _∙_}
+use lib.ListN.{length}
+use lib.Ieee.{nan}
+use borrow.Author.Needs.{needs}
+use Rattle.numbers.specs.DenseSpectrum.{allFinite}
+use Rattle.numbers.specs.Float.{isFinite}
+use Rattle.numbers.proofs.Every.{Rest, rest-start, rest-next, rest-fails, rest-ends}
+use Rattle.numbers.proofs.dense_spectrum.all_finite.Statement.{statement}
+use Rattle.numbers.proofs.dense_spectrum.all_finite.Tie as tie
+
+abbrev Inv-loop : tie.InvT-loop
+Inv-loop values i₀ i = Rest (isFinite) values i
+
+abbrev μ-loop : tie.MeasureT-loop
+μ-loop values i₀ i = length values - i
+
+loop-holds : tie.Need-loop-holds Inv-loop μ-loop
+loop-holds c = rest-start _ _
+
+mul-is-finite : tie.Need-mul-is-finite Inv-loop μ-loop
+mul-is-finite c = search needs
+
+shared-slice-read-is-finite : tie.Need-shared-slice-read-is-finite Inv-loop μ-loop
+shared-slice-read-is-finite c = search needs
+
+is-finite-requires : tie.Need-is-finite-requires Inv-loop μ-loop
+is-finite-requires c κs = search needs
+
+add-i : tie.Need-add-i Inv-loop μ-loop
+add-i c = omega arith
+
+loop-less : tie.Need-loop-less Inv-loop μ-loop
+loop-less c = omega arith
+
+loop-again : tie.Need-loop-again Inv-loop μ-loop
+loop-again c = rest-next _ _ (c .before .before .before .before .loop .i) nan (c .before .before .before .before .loop .inv) (omega arith) (sym (c .before .is-finite .ensures) ∙ c .if1 .taken)
+
+returns : tie.Need-returns Inv-loop μ-loop
+unfolding allFinite
+returns c = sym (rest-fails _ _ (c .before .before .before .before .loop .i) nan (c .before .before .before .before .loop .inv) (omega arith) (sym (c .before .is-finite .ensures) ∙ c .if1 .left))
+
+returns-2 : tie.Need-returns-2 Inv-loop μ-loop
+unfolding allFinite
+returns-2 c = sym (rest-ends _ _ (c .before .loop .i) (c .before .loop .inv) (omega arith))
+
+pub all-finite-spec : {M : Type 1} → statement M
+all-finite-spec = tie.close (tie.spec Inv-loop μ-loop loop-holds mul-is-finite shared-slice-read-is-finite is-finite-requires add-i loop-less loop-again returns returns-2)

@@ -1,0 +1,20 @@
+-- `numbers::dense_spectrum::is_lookup_wavelength` meets its contract: each answer is the definition's, by the tests on the way.
+use lib.Ieee.{ofBits}
+use borrow.Author.Needs.{needs}
+use Rattle.numbers.specs.DenseSpectrum.{isLookupWavelength}
+use Rattle.numbers.proofs.dense_spectrum.is_lookup_wavelength.Statement.{statement}
+use Rattle.numbers.proofs.dense_spectrum.is_lookup_wavelength.Tie as tie
+
+returns : tie.Need-returns
+unfolding isLookupWavelength ofBits
+returns c = rw (c .if1 .taken)
+
+is-wavelength-requires : tie.Need-is-wavelength-requires
+is-wavelength-requires c κs = search needs
+
+returns-2 : tie.Need-returns-2
+unfolding isLookupWavelength ofBits
+returns-2 c = rw (c .before .if1 .left, ← c .is-wavelength .ensures)
+
+pub is-lookup-wavelength-spec : {M : Type 1} → statement M
+is-lookup-wavelength-spec = tie.close (tie.spec returns is-wavelength-requires returns-2)

@@ -1,0 +1,16 @@
+-- `numbers::dense_spectrum::is_wavelength` meets its contract: the calls give what their contracts promise, and the definition is read in the same order.
+use lib.Ieee.{ofBits}
+use borrow.Author.Needs.{needs}
+use Rattle.numbers.specs.DenseSpectrum.{isWavelength}
+use Rattle.numbers.proofs.dense_spectrum.is_wavelength.Statement.{statement}
+use Rattle.numbers.proofs.dense_spectrum.is_wavelength.Tie as tie
+
+within-requires : tie.Need-within-requires
+within-requires c κs = search needs
+
+returns : tie.Need-returns
+unfolding isWavelength ofBits
+returns c = rw (← c .within .ensures)
+
+pub is-wavelength-spec : {M : Type 1} → statement M
+is-wavelength-spec = tie.close (tie.spec within-requires returns)

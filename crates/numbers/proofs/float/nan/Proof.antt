@@ -1,0 +1,12 @@
+-- `numbers::float::nan` meets its contract: 0 / 0 is no number.
+use mathlib.Core.Path.{refl}
+use lib.Ieee.{div, ofBits}
+use Rattle.numbers.proofs.float.nan.Statement.{statement}
+use Rattle.numbers.proofs.float.nan.Tie as tie
+
+returns : tie.Need-returns
+unfolding div ofBits
+returns c = refl
+
+pub nan-spec : {M : Type 1} → statement M
+nan-spec = tie.close (tie.spec returns)

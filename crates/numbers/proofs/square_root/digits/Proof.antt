@@ -1,0 +1,79 @@
+-- `digits` meets its contract: the invariant of RootDigits, and that each sum of a turn fits.
+use mathlib.Core.Path.{_≡_, refl, subst}
+use Prim.Native.Nat.{ℕ, _+_, _-_, _*_, _/_, _^_, _<_, _≤_}
+use native.Mathlib.Omega.{arith}
+use borrow.Author.Needs.{needs}
+use Rattle.numbers.proofs.RootDigits.{Inv, start, finish, bit-small, bit-turn}
+use Rattle.numbers.proofs.square_root.digits.Statement.{statement}
+use Rattle.numbers.proofs.square_root.digits.Tie as tie
+
+abbrev Inv-loop : tie.InvT-loop
+Inv-loop m root₀ rem₀ w₀ i₀ root rem w i = Inv m root rem w i × (root < 2 ^ 54)
+
+abbrev μ-loop : tie.MeasureT-loop
+μ-loop m root₀ rem₀ w₀ i₀ root rem w i = 54 - i
+
+loop-holds : tie.Need-loop-holds Inv-loop μ-loop
+loop-holds c = (start (c .args .m) (omega arith), omega arith)
+
+mul-x : tie.Need-mul-x Inv-loop μ-loop
+mul-x c = omega arith
+
+add-x : tie.Need-add-x Inv-loop μ-loop
+add-x c = omega arith
+
+mul-t : tie.Need-mul-t Inv-loop μ-loop
+mul-t c = omega arith
+
+add-t : tie.Need-add-t Inv-loop μ-loop
+add-t c = omega arith
+
+mul-w : tie.Need-mul-w Inv-loop μ-loop
+mul-w c = omega arith
+
+bit-requires : tie.Need-bit-requires Inv-loop μ-loop
+bit-requires c κs = search needs
+
+-- what the product with the digit is at most
+small : (c : tie.After-bit Inv-loop μ-loop)
+    → (c .before .before .loop .root * 4 + 1) * c .bit .result ≤ c .before .before .loop .rem * 4 + c .before .before .loop .w / 2 ^ 52
+small c =
+    bit-small (c .before .before .loop .root * 4 + 1) (c .before .before .loop .rem * 4 + c .before .before .loop .w / 2 ^ 52)
+    (c .bit .result) (c .bit .ensures .1)
+
+mul-rem : tie.Need-mul-rem Inv-loop μ-loop
+mul-rem c = omega (arith, small c)
+
+sub-rem : tie.Need-sub-rem Inv-loop μ-loop
+sub-rem c = omega (arith, small c)
+
+mul-root : tie.Need-mul-root Inv-loop μ-loop
+mul-root c = omega arith
+
+add-root : tie.Need-add-root Inv-loop μ-loop
+add-root c = omega arith
+
+add-i : tie.Need-add-i Inv-loop μ-loop
+add-i c = omega arith
+
+loop-less : tie.Need-loop-less Inv-loop μ-loop
+loop-less c = omega arith
+
+loop-again : tie.Need-loop-again Inv-loop μ-loop
+loop-again c =
+    let l = c .before .before .loop in
+    let x = l .rem * 4 + l .w / 2 ^ 52 in
+    let t = l .root * 4 + 1 in
+    bit-turn (c .before .before .before .args .m) (l .root) (l .rem) (l .w) (l .i) x t (c .bit .result) (l .inv .0) (omega arith) refl refl
+    (c .bit .ensures .1)
+
+returns : tie.Need-returns Inv-loop μ-loop
+returns c =
+    let l = c .before .loop in
+    let m = c .before .before .args .m in
+    let e : l .i ≡ 54 = let b = l .inv .0 .bound in omega arith in
+    finish m (l .root) (l .rem) (l .w) (subst (λ (z : ℕ). Inv m (l .root) (l .rem) (l .w) z) e (l .inv .0))
+
+pub digits-spec : {M : Type 1} → statement M
+digits-spec =
+    tie.close (tie.spec Inv-loop μ-loop loop-holds mul-x add-x mul-t add-t mul-w bit-requires mul-rem sub-rem mul-root add-root add-i loop-less loop-again returns)

@@ -1,0 +1,12 @@
+-- `numbers::vec2::Vec2::div` meets its contract: its operations are the definition's, one by one.
+use mathlib.Core.Path.{refl}
+use Rattle.numbers.specs.Vec2.{div}
+use Rattle.numbers.proofs.vec2.Vec2.div.Statement.{statement}
+use Rattle.numbers.proofs.vec2.Vec2.div.Tie as tie
+
+returns : tie.Need-returns
+unfolding div
+returns c = refl
+
+pub div-spec : {M : Type 1} → statement M
+div-spec = tie.close (tie.spec returns)

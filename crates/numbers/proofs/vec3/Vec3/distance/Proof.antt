@@ -1,0 +1,22 @@
+-- `numbers::vec3::Vec3::distance` meets its contract: the calls give what their contracts promise, and the definition is read in the same order.
+use lib.Ieee.{ofBits}
+use borrow.Author.Needs.{needs}
+use Rattle.numbers.specs.Vec3.{distance}
+use Rattle.numbers.proofs.vec3.Vec3.distance.Statement.{statement}
+use Rattle.numbers.proofs.vec3.Vec3.distance.Tie as tie
+
+distance-squared-requires : tie.Need-distance-squared-requires
+distance-squared-requires c κs = search needs
+
+max-requires : tie.Need-max-requires
+max-requires c κs = search needs
+
+sqrt-requires : tie.Need-sqrt-requires
+sqrt-requires c κs = search needs
+
+returns : tie.Need-returns
+unfolding distance ofBits
+returns c = rw (← c .before .before .distance-squared .ensures, ← c .before .max .ensures, ← c .sqrt .ensures)
+
+pub distance-spec : {M : Type 1} → statement M
+distance-spec = tie.close (tie.spec distance-squared-requires max-requires sqrt-requires returns)

@@ -1,0 +1,20 @@
+-- `numbers::vec3::Vec3::is_direction` meets its contract: the calls give what their contracts promise, and the definition is read in the same order.
+use lib.Ieee.{ofBits}
+use borrow.Author.Needs.{needs}
+use Rattle.numbers.specs.Float.{decimal}
+use Rattle.numbers.specs.Vec3.{isDirection}
+use Rattle.numbers.proofs.vec3.Vec3.is_direction.Statement.{statement}
+use Rattle.numbers.proofs.vec3.Vec3.is_direction.Tie as tie
+
+length-squared-requires : tie.Need-length-squared-requires
+length-squared-requires c κs = search needs
+
+within-requires : tie.Need-within-requires
+within-requires c κs = search needs
+
+returns : tie.Need-returns
+unfolding isDirection decimal ofBits
+returns c = rw (← c .before .length-squared .ensures, ← c .within .ensures)
+
+pub is-direction-spec : {M : Type 1} → statement M
+is-direction-spec = tie.close (tie.spec length-squared-requires within-requires returns)

@@ -1,0 +1,18 @@
+-- `numbers::vec3::Vec3::min_element` meets its contract: the calls give what their contracts promise, and the definition is read in the same order.
+use borrow.Author.Needs.{needs}
+use Rattle.numbers.specs.Vec3.{minElement}
+use Rattle.numbers.proofs.vec3.Vec3.min_element.Statement.{statement}
+use Rattle.numbers.proofs.vec3.Vec3.min_element.Tie as tie
+
+min-requires : tie.Need-min-requires
+min-requires c κs = search needs
+
+min-requires-2 : tie.Need-min-requires-2
+min-requires-2 c κs = search needs
+
+returns : tie.Need-returns
+unfolding minElement
+returns c = rw (← c .before .min .ensures, ← c .min2 .ensures)
+
+pub min-element-spec : {M : Type 1} → statement M
+min-element-spec = tie.close (tie.spec min-requires min-requires-2 returns)

@@ -1,0 +1,30 @@
+-- What the parts of the square root's computation promise each other, on natural
+-- numbers. Definitions only; the root itself is defined in SquareRoot.antt.
+use Prim.Native.Nat.{ℕ, _+_, _*_, _^_, _≤_, _<_}
+use mathlib.Core.Path.{_≡_}
+use lib.Ieee.{Float, binary64}
+use Rattle.numbers.specs.SquareRoot.{rootOfUnits}
+
+-- s is the whole root of n
+abbrev pub Root : ℕ → ℕ → Type 0
+Root s n = (s * s ≤ n) × (n < (s + 1) * (s + 1))
+
+-- q is the whole number nearest to the root of n: q - 1/2 < √n < q + 1/2, squared
+abbrev pub Nearest : ℕ → ℕ → Type 0
+Nearest q n = (q * q < n + q) × (n ≤ q * q + q)
+
+-- what `settle` answers: 0, or the nearest to the root of m * 2 ^ 52
+pub record Settled (m r : ℕ) : Type 0 where
+  pub top : r ≤ 2 ^ 53
+  pub right : 0 < r → Nearest r (m * 2 ^ 52)
+
+-- r is the root of the value that is n units, wherever n * 2 ^ 1074 is m * 2 ^ e
+abbrev pub RootFrom : ℕ → ℕ → Float → Type 0
+RootFrom m e r = (n : ℕ) → n < 2 ^ 2098 → n * 2 ^ 1074 ≡ m * 2 ^ e → r ≡ rootOfUnits binary64 n
+
+-- m is t shifted up by z places, to 53 binary digits
+pub record Normal (t m z : ℕ) : Type 0 where
+  pub same : m ≡ t * 2 ^ z
+  pub low : 2 ^ 52 ≤ m
+  pub high : m < 2 ^ 53
+  pub few : z ≤ 52

@@ -1,0 +1,152 @@
+// Spectra at equal steps of wavelength: lumo's src/tracer/color/dense_spectrum.rs. The entries are a
+// slice that the caller lends.
+use crate::float;
+ghost use mathlib.Core.Path.{_≡_};
+ghost use Prim.Native.Nat.{_-_};
+ghost use lib.Ieee.{nan, eq};
+ghost use lib.ListN.{getD};
+ghost use Rattle.numbers.specs.DenseSpectrum.{ceiling, interpolate, sampleOne, every, isConstant, allWithin, allFinite, isWavelength, isLookupWavelength};
+
+// The range of wavelengths, in nanometres.
+pub const LAMBDA_MIN: f64 = 360.0;
+
+pub const LAMBDA_MAX: f64 = 830.0;
+
+// Spectrum sampled at 5nm steps from 360nm to 830nm
+pub struct DenseSpectrum {}
+
+impl DenseSpectrum {
+    // How many entries, and how far apart.
+    pub const SAMPLES: usize = 95;
+
+    pub const STEP: f64 = 5.0;
+
+    // Are all entries equal?
+    pub fn is_constant(values: &[f64]) -> bool
+        ensures { λ r. ⌜ r ≡ isConstant (now (values .entry)) ⌝ }
+    {
+        all_equal(entry(values, 0), values)
+    }
+
+    // Sample the dense spectrum at one wavelength `lambda`
+    pub fn sample_one(values: &[f64], lambda: f64) -> f64
+        ensures { λ r. ⌜ r ≡ sampleOne (now (values .entry)) lambda ⌝ }
+    {
+        if lambda == 0.0 {
+            return 0.0;
+        }
+        let b1 = ceiling((lambda - LAMBDA_MIN) / DenseSpectrum::STEP);
+        let l1 = LAMBDA_MIN + DenseSpectrum::STEP * std::num::nearest_u64_to_f64(b1);
+        if lambda == l1 {
+            return entry(values, b1);
+        }
+        let x1 = (lambda - (l1 - DenseSpectrum::STEP)) / DenseSpectrum::STEP;
+        let i0 = entry(values, before(b1));
+        let i1 = entry(values, b1);
+        interpolate(x1, i0, i1)
+    }
+}
+
+// The least whole number from `x` up.
+fn ceiling(x: f64) -> u64
+    ensures { λ r. ⌜ r ≡ ceiling x ⌝ }
+{
+    if -1.0 < x {
+        if x < 18446744073709551616.0 {
+            let floor = std::num::truncating_f64_to_u64(x);
+            if std::num::nearest_u64_to_f64(floor) < x {
+                return floor + 1;
+            }
+            return floor;
+        }
+    }
+    0
+}
+
+// The number before `i`, and 0 before 0.
+fn before(i: u64) -> u64
+    ensures { λ r. ⌜ r ≡ i - 1 ⌝ }
+{
+    if i == 0 {
+        return 0;
+    }
+    i - 1
+}
+
+// The entry at `i`, and NaN past the end.
+fn entry(values: &[f64], i: u64) -> f64
+    ensures { λ r. ⌜ r ≡ getD (now (values .entry)) i nan ⌝ }
+{
+    if i < values.len() as u64 {
+        return values[i as usize];
+    }
+    float::nan()
+}
+
+fn interpolate(x1: f64, i0: f64, i1: f64) -> f64
+    ensures { λ r. ⌜ r ≡ interpolate x1 i0 i1 ⌝ }
+{
+    let x0 = 1.0 - x1;
+    i0 * x0 + i1 * x1
+}
+
+// Whether every entry equals `first`.
+fn all_equal(first: f64, values: &[f64]) -> bool
+    ensures { λ r. ⌜ r ≡ every (eq first) (now (values .entry)) ⌝ }
+{
+    let mut i = 0;
+    while i < values.len() {
+        if first == values[i] {
+            i += 1;
+        } else {
+            return false;
+        }
+    }
+    true
+}
+
+// Whether every entry lies from `lo` to `hi`.
+pub fn all_within(values: &[f64], lo: f64, hi: f64) -> bool
+    ensures { λ r. ⌜ r ≡ allWithin lo hi (now (values .entry)) ⌝ }
+{
+    let mut i = 0;
+    while i < values.len() {
+        if float::within(lo, hi, values[i]) {
+            i += 1;
+        } else {
+            return false;
+        }
+    }
+    true
+}
+
+pub fn all_finite(values: &[f64]) -> bool
+    ensures { λ r. ⌜ r ≡ allFinite (now (values .entry)) ⌝ }
+{
+    let mut i = 0;
+    while i < values.len() {
+        if float::is_finite(values[i]) {
+            i += 1;
+        } else {
+            return false;
+        }
+    }
+    true
+}
+
+// Whether a path may start with the wavelength.
+pub fn is_wavelength(lambda: f64) -> bool
+    ensures { λ r. ⌜ r ≡ isWavelength lambda ⌝ }
+{
+    float::within(LAMBDA_MIN, LAMBDA_MAX, lambda)
+}
+
+// Whether a lookup accepts the wavelength: 0, which stands for one that was ended, as well.
+pub fn is_lookup_wavelength(lambda: f64) -> bool
+    ensures { λ r. ⌜ r ≡ isLookupWavelength lambda ⌝ }
+{
+    if lambda == 0.0 {
+        return true;
+    }
+    is_wavelength(lambda)
+}
