@@ -1,0 +1,426 @@
+-- The Fresnel term for a real index is from 0 to 1.
+-- Proved (`fr-real-share`): for a cosine of at most 64 in size and an index from 1 / 128 to 128, on either side of the surface,
+-- `frReal` is finite and from 0 to 1; so is `fresnel` where k is zero (`fresnel-share`). Where the sine's square is not 1 or more the
+-- root inside is at least 128 units (`inner`), so both quotients have a divisor above 0, and the square of each is from 0 to 1 by
+-- `contrast` of Shares.
+use mathlib.Core.Path.{_≡_, refl, sym, ap, _∙_, subst}
+use mathlib.Core.Logic.{inl, inr}
+use mathlib.Core.List.{[], _∷_}
+use mathlib.Core.Bool.{Bool·beq, Bool, true, false, not, _||_, true≢false, cond}
+use Prim.Native.Nat.{ℕ, zero, suc, _+_, _-_, _*_, _^_, _≤_, _<_, zero-le}
+use native.Mathlib.Nat.{le-trans, le-of-eq, lt-of-le-of-lt, lt-of-lt-of-le, lt-irrefl, not-le-of-lt, mul-le-mul-right, mul-le-mul-left, mul-le-mul, le-of-mul-le-mul-right, mul-pos, mul-comm, zero-lt-suc, le-of-lt, one-mul}
+use native.Mathlib.Omega.{arith}
+use lib.Dec.{T, eqb, eqb→eq, lt→ltb, lit≤, lit<, T-not}
+use lib.Ieee.{Float, nan, inf, fin, Format, binary64, up, down, neg, le, lt, eq, fits}
+use lib.Ieee.Fits.{and-l, mul-fits, div-fits, sub-fits, up-pos}
+use lib.Ieee.Scale.{finite}
+use Rattle.numbers.proofs.Rounding.{rnd, rnd-fix, below-or-from}
+use Rattle.numbers.proofs.Units.{U, O, U-pos, U-O, Is, is-of, is-finite, is-same, sign, mag, pp, nn, neg-is, sub-opens}
+use Rattle.numbers.proofs.NonNegative.{Ext, Fine, unit-is, ext-le, finite-ext, nil-ext, unit-ext, mul-ext, div-ext, sub-fine, add-ext, fine-under, share-of, inside, U-held, rnd-ge, rnd-le}
+use Rattle.numbers.proofs.Shares.{contrast as contrast-share}
+use Rattle.numbers.proofs.Error.{Fin, P, N, M, parts, parts-le}
+use Rattle.numbers.proofs.WholeRoot.{RootErr, rootOf-err}
+use Rattle.numbers.proofs.Expression.{fv, _-ᶠ_, _*ᶠ_, mg, tame, closed}
+use Rattle.numbers.proofs.Direction.{two-U, two-O}
+use Rattle.numbers.proofs.Interpolation.{fine-N, pos-of, Index}
+use Rattle.numbers.proofs.UnitVector.{root-val, root-fits, zero-units, fine-pos}
+use Rattle.numbers.specs.Float.{_⊕_, _⊖_, _⊗_, _⊘_, f0, f1, f2, max, abs}
+use Rattle.numbers.specs.SquareRoot.{sqrt, rootOfUnits}
+use Rattle.optics.specs.Fresnel.{indexFrom, sin2I, isTotal, cosI, contrast, meanSquare, unpolarized, frFacing, frReal, frComplex, fresnel}
+use Rattle.optics.proofs.Sizes.{Upto, widen, expression, f1-upto, f1-parts, f2-units, held-O, ext-N, root-max, divide}
+
+abbrev B : Format
+B = binary64
+
+-- finite, and from 0 to 1
+abbrev pub Share : Float → Type 0
+Share q = T (finite q) × T (le f0 q) × T (le q f1)
+
+pub le-nil : (x : Float) → Fin x → N x ≡ 0 → T (le f0 x)
+le-nil x f n = ext-le f0 x 0 (mag x) nil-ext (ext-N x f n) zero-le
+
+held1 : rnd 53 1 1 ≡ 1
+held1 = rnd-fix 53 1 0 (lit< tt)
+
+-- ---- the index: from 1 / 128 to 128
+unfoldable low-U : ℕ
+low-U = 2 ^ 1067
+
+low-is : (128 * low-U ≡ U) × (rnd 53 low-U 1 ≡ low-U)
+unfolding U low-U
+low-is = (refl, rnd-fix 53 1 1067 (lit< tt))
+
+high-is : (rnd 53 (128 * U) 1 ≡ 128 * U) × (128 * U < O)
+unfolding U O
+high-is = (rnd-fix 53 1 1081 (lit< tt), lit< tt)
+
+pub index-pos : (e : Float) → Index e → 0 < mag e
+index-pos e h = go (mag e) (lt-of-lt-of-le U-pos (h .low))
+  where
+    go : (e : ℕ) → 0 < 128 * e → 0 < e
+    go e h = omega arith
+
+-- what compares equal to 0 has no units
+zero-sized : (e : Float) → Fin e → T (eq e f0) → mag e ≡ 0
+unfolding eq
+zero-sized nan f t = absurd (f .0)
+zero-sized (inf s) f t = absurd (f .0)
+zero-sized (fin s m e) f t =
+    let a = m * up e * 1 in
+    let same = eqb→eq a (0 * 1 * down e) (and-l (eqb a (0 * 1 * down e)) (Bool·beq s false || eqb a 0) t) in
+    none (mag (fin s m e)) (is-of (fin s m e) tt (f .1) .0 .1) (lin (m * up e) (down e) same)
+  where
+    lin : (a d : ℕ) → a * 1 ≡ 0 * 1 * d → a ≡ 0
+    lin a d h = omega arith
+
+    null : (a b : ℕ) → 0 * a * b ≡ 0 * b
+    null a b = omega arith
+
+    none : (n : ℕ) → m * up e * U ≡ n * down e → m * up e ≡ 0 → n ≡ 0
+    none zero h z = refl
+    none (suc n) h z = absurd (zero-units (suc n) e (zero-lt-suc n) (null (up e) U ∙ ap (λ (k : ℕ). k * U) (sym z) ∙ h))
+
+-- so an index is not 0
+pub index-not-zero : (e : Float) → Index e → eq e f0 ≡ false
+index-not-zero e h = go (eq e f0) refl
+  where
+    no-zero : eq e f0 ≡ true → ⊥
+    no-zero q = lt-irrefl 0 (subst (λ (n : ℕ). 0 < n) (zero-sized e (h .fin) (subst (λ (b : Bool). T b) (sym q) tt)) (index-pos e h))
+
+    go : (b : Bool) → eq e f0 ≡ b → eq e f0 ≡ false
+    go false q = q
+    go true q = absurd (no-zero q)
+
+pub index-inverse : (e : Float) → Index e → Index (f1 ⊘ e)
+index-inverse e h =
+    let a = mag e in
+    let r = rnd 53 (U * U) a in
+    let p = index-pos e h in
+    let x : Ext (f1 ⊘ e) r = div-ext f1 e U a (false, unit-is, refl) (fine-N e (h .fin) (h .above)) p in
+    let hi : r ≤ 128 * U = rnd-le (128 * U) (U * U) a p (high-is .0) (le-trans (mul-le-mul-right U (h .low)) (le-of-eq (re U a))) in
+    let low = le-trans (mul-le-mul-left low-U (h .high)) (le-of-eq (re2 low-U U (low-is .0))) in
+    let lo : low-U ≤ r = rnd-ge low-U (U * U) a p (low-is .1) low in
+    let q = pos-of (f1 ⊘ e) r (div-fits B f1 e) x (lt-of-le-of-lt hi (high-is .1)) in
+    record {
+      fin = q .fin;
+      above = q .zero-N;
+      low = subst (λ (z : ℕ). U ≤ 128 * z) (sym (q .is)) (le-trans (le-of-eq (sym (low-is .0))) (mul-le-mul-left 128 lo));
+      high = le-trans (le-of-eq (q .is)) hi;
+    }
+  where
+    re : (u a : ℕ) → 128 * a * u ≡ 128 * u * a
+    re u a = omega arith
+
+    re2 : (l u : ℕ) → 128 * l ≡ u → l * (128 * u) ≡ u * u
+    re2 l u h = rw (← h) (omega arith)
+
+pub index-from : (c e : Float) → Index e → Index (indexFrom c e)
+unfolding indexFrom
+index-from c e i = go (lt c f0)
+  where
+    go : (b : Bool) → Index (cond b (f1 ⊘ e) e)
+    go true = index-inverse e i
+    go false = i
+
+-- ---- the square of the index
+unfoldable low2 : ℕ
+low2 = 2 ^ 1060
+
+low2-is : (16384 * low2 ≡ U) × (rnd 53 low2 1 ≡ low2)
+unfolding U low2
+low2-is = (refl, rnd-fix 53 1 1060 (lit< tt))
+
+h2-is : (rnd 53 (16384 * U) 1 ≡ 16384 * U) × (16384 * U < O)
+unfolding U O
+h2-is = (rnd-fix 53 1 1088 (lit< tt), lit< tt)
+
+pub index-square : (e : Float) → Index e → Fin (e ⊗ e) × (U ≤ 16384 * mag (e ⊗ e))
+index-square e h =
+    let a = mag e in
+    let f = fine-N e (h .fin) (h .above) in
+    let r = rnd 53 (a * a * U) (U * U) in
+    let p = mul-pos U-pos U-pos in
+    let high = le-trans (mul-le-mul-right U (mul-le-mul (h .high) (h .high))) (le-of-eq (re U)) in
+    let hi : r ≤ 16384 * U = rnd-le (16384 * U) (a * a * U) (U * U) p (h2-is .0) high in
+    let square = le-trans (mul-le-mul-right U (mul-le-mul (h .low) (h .low))) (le-of-eq (re3 a U)) in
+    let low = le-trans (le-of-eq (re2 low2 U (low2-is .0))) square in
+    let lo : low2 ≤ r = rnd-ge low2 (a * a * U) (U * U) p (low2-is .1) (le-of-mul-le-mul-right {k = 16384} low (lit< tt)) in
+    let q = pos-of (e ⊗ e) r (mul-fits B e e) (mul-ext e e a a f f) (lt-of-le-of-lt hi (h2-is .1)) in
+    (q .fin, subst (λ (z : ℕ). U ≤ 16384 * z) (sym (q .is)) (le-trans (le-of-eq (sym (low2-is .0))) (mul-le-mul-left 16384 lo)))
+  where
+    re : (u : ℕ) → 128 * u * (128 * u) * u ≡ 16384 * u * (u * u)
+    re u = omega arith
+
+    re2 : (l u : ℕ) → 16384 * l ≡ u → l * (u * u) * 16384 ≡ u * u * u
+    re2 l u h = rw (← h) (omega arith)
+
+    re3 : (a u : ℕ) → 128 * a * (128 * a) * u ≡ a * a * u * 16384
+    re3 a u = omega arith
+
+-- ---- the sine's square inside
+pub sin2-upto : (c e : Float) → Upto 64 c → Index e → Upto 134217728 (sin2I c e)
+unfolding closed tame mg sin2I
+sin2-upto c e h i =
+    let w = expression 8192 (f1 ∷ c ∷ []) (1 ∷ 64 ∷ []) (fv 0 -ᶠ fv 1 *ᶠ fv 1) (f1-upto, (h, tt)) tt tt (lit≤ tt) in
+    let q = index-square e i in
+    divide (f1 ⊖ c ⊗ c) (e ⊗ e) w (q .0) (q .1)
+
+-- ---- where it is not 1 or more, the cosine inside is above 0
+nle-parts : (x y : Float) → Fin x → Fin y → T (not (le x y)) → P y + N x < P x + N y
+nle-parts x y f g t = elim (below-or-from (P y + N x) (P x + N y)) [ inl l ↦ l | inr h ↦ absurd (T-not (le x y) t (parts-le x y f g h)) ]
+
+fine-one : Fine f1 U
+fine-one = (false, unit-is, refl)
+
+-- 1 - s is above 0, or the infinity
+pub gap : (s : Float) → Fin s → T (not (le f1 s)) → (n : ℕ) × Ext (f1 ⊖ s) n × (0 < n)
+unfolding P N
+gap s f t = go (sign s) refl (nle-parts f1 s (f1-upto .fin) f t)
+  where
+    a : ℕ
+    a = mag s
+
+    is : Is s (sign s) a
+    is = is-of s (f .0) (f .1) .0
+
+    some : (n : ℕ) → 1 ≤ n → 0 < rnd 53 n 1
+    some n p = rnd-ge 1 n 1 (lit< tt) held1 (le-trans (lit≤ tt) p)
+
+    go : (b : Bool) → sign s ≡ b → P s + N f1 < P f1 + N s → (n : ℕ) × Ext (f1 ⊖ s) n × (0 < n)
+    go false e st =
+        let p = ap (λ (b : Bool). pp b a) e in
+        let n = ap (λ (b : Bool). nn b a) e in
+        let l : a < U = lin a U (P s) (N s) (P f1) (N f1) p n (f1-parts .0) (f1-parts .1) st in
+        let fine-s : Fine s a = (false, subst (λ (b : Bool). Is s b a) e is, refl) in
+        (rnd 53 (U - a) 1, sub-fine f1 s U a fine-one fine-s (le-of-lt l), some (U - a) (less a U l))
+      where
+        lin : (a u p n c d : ℕ) → p ≡ a → n ≡ 0 → c ≡ u → d ≡ 0 → p + d < c + n → a < u
+        lin a u p n c d h₁ h₂ h₃ h₄ h₅ = omega arith
+
+        less : (a u : ℕ) → a < u → 1 ≤ u - a
+        less a u h = omega arith
+    go true e st =
+        let i : Is (neg s) false a = neg-is s true a (subst (λ (b : Bool). Is s b a) e is) in
+        let sum = add-ext f1 (neg s) U a unit-ext (inl (held-O s f, (false, i, refl))) in
+        (rnd 53 (U + a) 1, subst (λ (z : Float). Ext z (rnd 53 (U + a) 1)) (sym (sub-opens f1 s)) sum, some (U + a) (more U a U-pos))
+      where
+        more : (u a : ℕ) → 0 < u → 1 ≤ u + a
+        more u a h = omega arith
+
+-- the root of it: at least 128 units, so that a product with the index is above 0 too
+pub record Inner (i : Float) : Type 0 where
+  pub fin : Fin i
+  pub above : N i ≡ 0
+  pub some : 128 ≤ mag i
+
+big-U : 66049 ≤ U
+unfolding U
+big-U = lit≤ tt
+
+root-some : (n ρ : ℕ) → 0 < n → RootErr n ρ → 128 ≤ ρ
+root-some n ρ p e =
+    let large = big-R (e .R) (le-trans (le-trans big-U (le-mul n U p)) (le-of-lt (e .high))) in
+    low (e .R) (e .m) ρ large (e .cut .0) (e .near .1)
+  where
+    le-mul : (n u : ℕ) → 0 < n → u ≤ n * u
+    le-mul n u p = let h = mul-le-mul-right u p in omega arith
+
+    big-R : (R : ℕ) → 66049 ≤ (R + 1) * (R + 1) → 256 ≤ R
+    big-R R h = elim (below-or-from R 256) [
+      | inl l ↦ absurd (not-le-of-lt (lt-of-le-of-lt (mul-le-mul (suc-le R l) (suc-le R l)) (lit< {m = 256 * 256} {n = 66049} tt)) h)
+      | inr k ↦ k
+    ]
+      where
+        suc-le : (R : ℕ) → R < 256 → R + 1 ≤ 256
+        suc-le R l = omega arith
+
+    low : (R m ρ : ℕ) → 256 ≤ R → 2 * R ≤ m → M * m ≤ M * (2 * ρ) + m → 128 ≤ ρ
+    low R m ρ a b c = last m ρ (le-trans (mul-le-mul-left 2 a) b) (half m ρ c)
+      where
+        half : (m ρ : ℕ) → M * m ≤ M * (2 * ρ) + m → m ≤ 4 * ρ
+        half m ρ c = omega arith
+
+        last : (m ρ : ℕ) → 512 ≤ m → m ≤ 4 * ρ → 128 ≤ ρ
+        last m ρ a b = omega arith
+
+-- where 1 - s is n units
+pub inner-of : (s : Float) (n : ℕ) → Ext (f1 ⊖ s) n → 0 < n → n < O → Inner (cosI s)
+unfolding cosI
+inner-of s n e p l =
+    let d = f1 ⊖ s in
+    let q = root-val d n (sub-fits B f1 s) (fine-pos d n (fine-under d n e l) p) p in
+    let r = rootOf-err n p l in
+    let i = sqrt (max d f0) in
+    let is-root : i ≡ rootOfUnits B n = ap (λ (z : Float). sqrt z) (q .1) ∙ q .0 in
+    let is : Is i false (r .0) = subst (λ (z : Float). Is z false (r .0)) (sym is-root) (r .1) in
+    let f : Fin i = (is-finite i false (r .0) is, root-fits (max d f0) n is-root) in
+    let same = is-same i false (sign i) (r .0) (mag i) is (is-of i (f .0) (f .1) .0) .1 in
+    record { fin = f; above = parts i false (r .0) f is .1; some = subst (λ (z : ℕ). 128 ≤ z) same (root-some n (r .0) p (r .2)) }
+
+-- where s is not large
+one-minus : (s : Float) → Upto 134217728 s → Upto 268435456 (f1 ⊖ s)
+unfolding closed tame mg
+one-minus s h = expression 268435456 (f1 ∷ s ∷ []) (1 ∷ 134217728 ∷ []) (fv 0 -ᶠ fv 1) (f1-upto, (h, tt)) tt tt (lit≤ tt)
+
+pub inner-upto : (s : Float) → Upto 134217728 s → Upto 536870915 (cosI s)
+unfolding cosI
+inner-upto s h = root-max 268435456 (f1 ⊖ s) (one-minus s h)
+
+inner : (s : Float) → Upto 134217728 s → T (not (isTotal s)) → Inner (cosI s)
+unfolding isTotal
+inner s h t =
+    let e = gap s (h .fin) t in
+    inner-of s (e .0) (e .1) (e .2) (finite-ext (f1 ⊖ s) (e .0) (e .1) (one-minus s h .fin .0))
+
+-- ---- the two quotients
+lt-of-pos : (z : Float) (n : ℕ) → Is z false n → 0 < n → T (lt f0 z)
+unfolding lt
+lt-of-pos (fin true m e) n i p = absurd (true≢false (i .0))
+lt-of-pos (fin false zero e) n i p = absurd (zero-units n e p (i .1))
+lt-of-pos (fin false (suc m) e) n i p =
+    lt→ltb (0 * 1 * down e) (suc m * up e * 1) (go (suc m * up e) (down e) (mul-pos (zero-lt-suc m) (up-pos e)))
+  where
+    go : (a d : ℕ) → 0 < a → 0 * 1 * d < a * 1
+    go a d h = omega arith
+
+inf-pos : T (lt f0 (inf false))
+unfolding lt
+inf-pos = tt
+
+-- what is not negative and not of size 0 is above 0
+pub ext-pos : (x : Float) (n : ℕ) → Ext x n → 0 < n → T (lt f0 x)
+ext-pos x n (inl h) p = lt-of-pos x n (fine-pos x n (h .1) p) p
+ext-pos x n (inr h) p = subst (λ (z : Float). T (lt f0 z)) (sym (h .1)) inf-pos
+
+-- a sum of which one part is above 0
+sum-pos : (x y : Float) → Fin x → Fin y → N x ≡ 0 → N y ≡ 0 → 1 ≤ mag x + mag y → T (lt f0 (x ⊕ y))
+sum-pos x y f g n m p =
+    let s = mag x + mag y in
+    let q : 1 ≤ rnd 53 s 1 = rnd-ge 1 s 1 (lit< tt) held1 (le-trans (lit≤ tt) p) in
+    ext-pos (x ⊕ y) (rnd 53 s 1) (add-ext x y (mag x) (mag y) (ext-N x f n) (ext-N y g m)) q
+
+pub squared : (x y : Float) → Fin x → Fin y → N x ≡ 0 → N y ≡ 0 → 1 ≤ mag x + mag y → Share (contrast x y ⊗ contrast x y)
+unfolding contrast
+squared x y f g n m p = contrast-share x y (f .1) (g .1) (le-nil x f n) (f .0) (le-nil y g m) (g .0) (sum-pos x y f g n m p)
+
+-- a product of the index and something from 0 on
+pub record Indexed (e x : Float) : Type 0 where
+  pub fin : Fin (e ⊗ x)
+  pub above : N (e ⊗ x) ≡ 0
+  pub some : 128 ≤ mag x → 1 ≤ mag (e ⊗ x)
+
+abbrev pub productSize : Float → Float → ℕ
+productSize e x = rnd 53 (mag e * mag x * U) (U * U)
+
+pub product-ext : (e x : Float) → Index e → Fin x → N x ≡ 0 → Ext (e ⊗ x) (productSize e x)
+product-ext e x i f n = mul-ext e x (mag e) (mag x) (fine-N e (i .fin) (i .above)) (fine-N x f n)
+
+-- that is below the overflow
+pub indexed-below : (e x : Float) → Index e → Fin x → N x ≡ 0 → productSize e x < O → Indexed e x
+indexed-below e x i f n l =
+    let a = mag e in
+    let b = mag x in
+    let p = mul-pos U-pos U-pos in
+    let q = pos-of (e ⊗ x) (productSize e x) (mul-fits B e x) (product-ext e x i f n) l in
+    record {
+      fin = q .fin;
+      above = q .zero-N;
+      some = λ (h : 128 ≤ b).
+          let low = mul-le-mul-right U (le-trans (i .low) (le-trans (mul-le-mul-right a h) (le-of-eq (mul-comm b a)))) in
+          subst (λ (z : ℕ). 1 ≤ z) (sym (q .is)) (rnd-ge 1 (a * b * U) (U * U) p held1 (le-trans (le-of-eq (one-mul (U * U))) low));
+    }
+
+h37 : (rnd 53 (137438953472 * U) 1 ≡ 137438953472 * U) × (137438953472 * U < O)
+unfolding U O
+h37 = (rnd-fix 53 1 1111 (lit< tt), lit< tt)
+
+-- something of at most 2 ^ 30
+indexed : (e x : Float) → Index e → Upto 1073741824 x → N x ≡ 0 → Indexed e x
+indexed e x i h n =
+    let high = le-trans (mul-le-mul-right U (mul-le-mul (i .high) (h .size))) (le-of-eq (re U)) in
+    let top = rnd-le (137438953472 * U) (mag e * mag x * U) (U * U) (mul-pos U-pos U-pos) (h37 .0) high in
+    indexed-below e x i (h .fin) n (lt-of-le-of-lt top (h37 .1))
+  where
+    re : (u : ℕ) → 128 * u * (1073741824 * u) * u ≡ 137438953472 * u * (u * u)
+    re u = omega arith
+
+-- ---- half of a sum of two shares
+pub mean : (p q : Float) → T (fits B p) → T (fits B q) → Share p → Share q → Share ((p ⊕ q) ⊘ f2)
+mean p q fp fq hp hq =
+    let a = share-of p fp (hp .1) (hp .2) in
+    let b = share-of q fq (hq .1) (hq .2) in
+    let s = rnd 53 (a .0 + b .0) 1 in
+    let two = mul-pos (lit< {m = 0} {n = 2} tt) U-pos in
+    let l : s ≤ 2 * U = rnd-le (2 * U) (a .0 + b .0) 1 (lit< tt) two-U (lin (a .0) (b .0) U (a .2) (b .2)) in
+    let e = add-ext p q (a .0) (b .0) (inl (lt-of-le-of-lt (a .2) U-O, a .1)) (inl (lt-of-le-of-lt (b .2) U-O, b .1)) in
+    let sum = fine-under (p ⊕ q) s e (lt-of-le-of-lt l two-O) in
+    let d = div-ext (p ⊕ q) f2 s (2 * U) sum (false, (refl, f2-units), refl) two in
+    inside ((p ⊕ q) ⊘ f2) f1 (rnd 53 (s * U) (2 * U)) U d unit-ext U-O
+    (rnd-le U (s * U) (2 * U) two (U-held .0) (le-trans (mul-le-mul-right U l) (le-of-eq (mul-comm (2 * U) U))))
+  where
+    lin : (a b u : ℕ) → a ≤ u → b ≤ u → a + b ≤ 2 * u * 1
+    lin a b u h k = omega arith
+
+-- ---- the whole term
+pub unpolarized-share : (e c i : Float) → Fin c → N c ≡ 0 → Inner i → Indexed e c → Indexed e i → Share (unpolarized e c i)
+unfolding unpolarized meanSquare
+unpolarized-share e c i f n y ec ei =
+    let p = contrast (e ⊗ c) i in
+    let s = contrast c (e ⊗ i) in
+    mean (p ⊗ p) (s ⊗ s) (mul-fits B p p) (mul-fits B s s)
+    (squared (e ⊗ c) i (ec .fin) (y .fin) (ec .above) (y .above) (lin (mag (e ⊗ c)) (mag i) (y .some)))
+    (squared c (e ⊗ i) f (ei .fin) n (ei .above) (lin' (mag c) (mag (e ⊗ i)) (ei .some (y .some))))
+  where
+    lin : (a b : ℕ) → 128 ≤ b → 1 ≤ a + b
+    lin a b h = omega arith
+
+    lin' : (a b : ℕ) → 1 ≤ b → 1 ≤ a + b
+    lin' a b h = omega arith
+
+pub f1-share : Share f1
+unfolding le
+f1-share = (tt, tt, tt)
+
+pub f0-share : Share f0
+unfolding le
+f0-share = (tt, tt, tt)
+
+facing-share : (c e : Float) → Upto 64 c → N c ≡ 0 → Index e → Share (frFacing c e)
+unfolding frFacing
+facing-share c e h n i = go (isTotal s) (inner s (sin2-upto c e h i))
+  where
+    s : Float
+    s = sin2I c e
+
+    ec : Indexed e c
+    ec = indexed e c i (widen 64 1073741824 c (lit≤ tt) h) n
+
+    ei : Inner (cosI s) → Indexed e (cosI s)
+    ei y = indexed e (cosI s) i (widen 536870915 1073741824 (cosI s) (lit≤ tt) (inner-upto s (sin2-upto c e h i))) (y .above)
+
+    go : (b : Bool) → (T (not b) → Inner (cosI s)) → Share (cond b f1 (unpolarized e c (cosI s)))
+    go true f = f1-share
+    go false f = unpolarized-share e c (cosI s) (h .fin) n (f tt) ec (ei (f tt))
+
+abs-parts : (k : ℕ) (c : Float) → Upto k c → Upto k (abs c) × (N (abs c) ≡ 0)
+unfolding N lib.Ieee.fits abs
+abs-parts k nan h = absurd (h .fin .0)
+abs-parts k (inf s) h = absurd (h .fin .0)
+abs-parts k (fin true zero e) h = (record { fin = (tt, h .fin .1); size = h .size }, refl)
+abs-parts k (fin true (suc m) e) h = (record { fin = (tt, h .fin .1); size = h .size }, refl)
+abs-parts k (fin false m e) h = (h, refl)
+
+pub fr-real-share : (c e : Float) → Upto 64 c → Index e → Share (frReal c e)
+unfolding frReal
+fr-real-share c e h i = let a = abs-parts 64 c h in facing-share (abs c) (indexFrom c e) (a .0) (a .1) (index-from c e i)
+
+-- `fresnel` at an index in range and with no absorption
+pub fresnel-real : (c e k : Float) → Index e → T (eq k f0) → fresnel c e k ≡ frReal c e
+unfolding fresnel
+fresnel-real c e k i t = go (eq k f0) t
+  where
+    go : (b : Bool) → T b → cond b (cond (eq e f0) f0 (frReal c e)) (frComplex c e k) ≡ frReal c e
+    go true t = ap (λ (b : Bool). cond b f0 (frReal c e)) (index-not-zero e i)
+
+pub fresnel-share : (c e k : Float) → Upto 64 c → Index e → T (eq k f0) → Share (fresnel c e k)
+fresnel-share c e k h i t = subst (λ (z : Float). Share z) (sym (fresnel-real c e k i t)) (fr-real-share c e h i)

@@ -1,0 +1,13 @@
+-- The laws, in the order in which they build on each other.
+pub mod Cosine
+pub mod Samples
+pub mod Sizes
+pub mod SampledNormal
+pub mod Fresnel
+pub mod AnyCosine
+pub mod Signs
+pub mod FresnelSign
+pub mod Glass
+pub mod Shadowing
+pub mod Spectra
+pub mod Densities

@@ -1,0 +1,178 @@
+-- What the spectra of an accepted surface are at a wavelength from 360 to 830, and that a lone index in eta's limits is in range.
+-- Proved: eta is finite and from 1 / 128 to 128 (`eta-index`, `lone-index`), and on glass k compares equal to 0 (`glass-k-zero`). The
+-- first by the lookup's laws of the crate `numbers`; the second since a sum of products with zeros, of either sign, is a zero.
+use mathlib.Core.Path.{_≡_, refl, sym, ap, _∙_, subst}
+use mathlib.Core.Logic.{inl, inr}
+use mathlib.Core.Bool.{Bool·beq, Bool, true, false, _||_, cond}
+use mathlib.Core.List.{List, [], _∷_}
+use Prim.Native.Nat.{ℕ, zero, suc, _-_, _*_, _≤_, _<_, zero-le}
+use native.Mathlib.Nat.{le-trans, le-of-eq, lt-of-le-of-lt, lt-of-lt-of-le, not-le-of-lt, mul-pos, zero-lt-suc}
+use native.Mathlib.Omega.{arith}
+use lib.Dec.{T, eqb, eqb→eq, lit≤, lit<}
+use lib.ListN.{length}
+use lib.Ieee.{Float, nan, inf, fin, Format, binary64, up, down, le, eq, fits}
+use lib.Ieee.Fits.{and-l, and-r, and-i, eq→eqb, div-fits, sub-fits}
+use Rattle.numbers.proofs.Rounding.{rnd}
+use Rattle.numbers.proofs.Units.{U, O, U-pos, U-O, mag, either}
+use Rattle.numbers.proofs.NonNegative.{Ext, Fine, mul-ext, add-ext, nil-ext, fine-of, rnd-zero, share-of}
+use Rattle.numbers.proofs.Error.{Fin, N}
+use Rattle.numbers.proofs.Interpolation.{Index, AllFit, Place, range-of, fine-N, dense-place, sample-index}
+use Rattle.numbers.proofs.Shares.{shares}
+use Rattle.numbers.specs.Float.{_⊕_, _⊖_, _⊗_, f0, f1, decimal, within}
+use Rattle.numbers.specs.DenseSpectrum.{denseSamples, denseStep, terminated, entry, interpolate, upperPoint, upperLambda, upperWeight, sampleOneAt, sampleOne, every, allWithin, isWavelength}
+use Rattle.optics.specs.Surface.{etaMin, etaMax, isEta, isSpectrum, etaHolds, allZero, kEntriesHold, kHolds, etaAt, kAt}
+use Rattle.optics.specs.declared.microfacet.Kind.the-variants.{Glass}
+use Rattle.optics.proofs.Sizes.{f0-upto, f0-parts}
+
+abbrev B : Format
+B = binary64
+
+-- ---- eta
+max-is : etaMax ≡ decimal 100 1
+unfolding decimal
+max-is = refl
+
+pub eta-index : (eta : List Float) (lambda : Float) → AllFit eta → T (etaHolds eta) → T (fits B lambda) → T (isWavelength lambda)
+    → Index (etaAt eta lambda)
+unfolding etaHolds isSpectrum etaMin etaAt
+eta-index eta lambda all holds f w =
+    let entries = eqb→eq (length eta) denseSamples (and-l (eqb (length eta) denseSamples) (allWithin (decimal 1 100) etaMax eta) holds) in
+    let limits = and-r (eqb (length eta) denseSamples) (allWithin (decimal 1 100) etaMax eta) holds in
+    sample-index lambda eta f w entries all (subst (λ (hi : Float). T (allWithin (decimal 1 100) hi eta)) max-is limits)
+
+-- a lone index in the limits of eta's entries
+eta-sizes : (U ≤ 100 * mag etaMin) × (mag etaMax ≤ 100 * U)
+unfolding etaMin decimal U
+eta-sizes = (lit≤ tt, lit≤ tt)
+
+eta-fin : Fin etaMin × Fin etaMax × (N etaMin ≡ 0) × (N etaMax ≡ 0)
+unfolding etaMin decimal lib.Ieee.fits N U
+eta-fin = ((tt, tt), (tt, tt), refl, refl)
+
+pub lone-index : (eta : Float) → T (fits B eta) → T (isEta eta) → Index eta
+unfolding isEta within
+lone-index eta f h =
+    let low = and-l (le etaMin eta) (le eta etaMax) h in
+    let high = and-r (le etaMin eta) (le eta etaMax) h in
+    let r = range-of etaMin etaMax eta (eta-fin .0) (eta-fin .1) (eta-fin .2) (eta-fin .3) f low high in
+    record {
+      fin = r .fin;
+      above = r .above;
+      low = at-least U (mag etaMin) (mag eta) (eta-sizes .0) (r .low);
+      high = at-most U (mag etaMax) (mag eta) (eta-sizes .1) (r .high);
+    }
+  where
+    at-least : (u l m : ℕ) → u ≤ 100 * l → l ≤ m → u ≤ 128 * m
+    at-least u l m a b = omega arith
+
+    at-most : (u l m : ℕ) → l ≤ 100 * u → m ≤ l → m ≤ 128 * u
+    at-most u l m a b = omega arith
+
+-- ---- zeros of either sign: no units
+abbrev Zero : Float → Type 0
+Zero x = Ext x 0
+
+not-O : O ≤ 0 → ⊥
+not-O h = not-le-of-lt (lt-of-le-of-lt zero-le U-O) h
+
+zero-eq : (x : Float) → Zero x → T (eq x f0)
+unfolding eq
+zero-eq x (inr h) = absurd (not-O (h .0))
+zero-eq nan (inl h) = absurd (h .1 .1)
+zero-eq (inf s) (inl h) = absurd (h .1 .1)
+zero-eq (fin s m e) (inl h) =
+    let a = m * up e * 1 in
+    let none : a ≡ 0 = null (m * up e) (down e) U (h .1 .1 .1) U-pos in
+    let level = eq→eqb {a = a} {b = 0 * 1 * down e} (none ∙ sym (zeros (down e))) in
+    and-i (eqb a (0 * 1 * down e)) (Bool·beq s false || eqb a 0) level (either (Bool·beq s false) (eqb a 0) (inr (eq→eqb none)))
+  where
+    null : (a d u : ℕ) → a * u ≡ 0 * d → 0 < u → a * 1 ≡ 0
+    null zero d u h p = refl
+    null (suc a) d u h p = absurd (not-le-of-lt (mul-pos (zero-lt-suc a) p) (le-of-eq (h ∙ none d)))
+      where
+        none : (d : ℕ) → 0 * d ≡ 0
+        none d = omega arith
+
+    zeros : (d : ℕ) → 0 * 1 * d ≡ 0
+    zeros d = omega arith
+
+zero-entry : (x : Float) → T (fits B x) → T (within f0 f0 x) → Fine x 0
+unfolding within
+zero-entry x f h =
+    let low = and-l (le f0 x) (le x f0) h in
+    let high = and-r (le f0 x) (le x f0) h in
+    let r = range-of f0 f0 x (f0-upto .fin) (f0-upto .fin) (f0-parts .1) (f0-parts .1) f low high in
+    subst (λ (n : ℕ). Fine x n) (none (mag x) (le-trans (r .high) (le-of-eq (f0-parts .2)))) (fine-N x (r .fin) (r .above))
+  where
+    none : (n : ℕ) → n ≤ 0 → n ≡ 0
+    none n h = omega arith
+
+zero-product : (i y : Float) (b : ℕ) → Fine i 0 → Fine y b → Zero (i ⊗ y)
+zero-product i y b hi hy =
+    let p = mul-pos U-pos U-pos in
+    subst (λ (n : ℕ). Ext (i ⊗ y) n) (ap (λ (n : ℕ). rnd 53 n (U * U)) (null b U) ∙ rnd-zero (U * U) p) (mul-ext i y 0 b hi hy)
+  where
+    null : (b u : ℕ) → 0 * b * u ≡ 0
+    null b u = omega arith
+
+zero-between : (x i₀ i₁ : Float) → T (fits B x) → T (le f0 x) → T (le x f1) → Fine i₀ 0 → Fine i₁ 0 → Zero (interpolate x i₀ i₁)
+unfolding interpolate
+zero-between x i₀ i₁ f low high h₀ h₁ =
+    let s = shares x f low high in
+    let y = f1 ⊖ x in
+    let a = share-of x f low high in
+    let b = fine-of y (sub-fits B f1 x) (s .1) (s .0) in
+    let sum = add-ext (i₀ ⊗ y) (i₁ ⊗ x) 0 0 (zero-product i₀ y (b .0) h₀ (b .1)) (zero-product i₁ x (a .0) h₁ (a .1)) in
+    subst (λ (n : ℕ). Ext (i₀ ⊗ y ⊕ i₁ ⊗ x) n) (rnd-zero 1 (lit< tt)) sum
+
+-- the entry at i, where every entry passes the test p
+entry-every : (p : Float → Bool) (values : List Float) (i : ℕ) → T (every p values) → i < length values → T (p (entry values i))
+unfolding every
+entry-every p [] i h l = absurd (not-le-of-lt l zero-le)
+entry-every p (v ∷ vs) zero h l = and-l (p v) (every p vs) h
+entry-every p (v ∷ vs) (suc i) h l = entry-every p vs i (and-r (p v) (every p vs) h) (less i (length vs) l)
+  where
+    less : (i n : ℕ) → suc i < suc n → i < n
+    less i n h = omega arith
+
+zero-sample : (k : List Float) (w : Float) → AllFit k → length k ≡ denseSamples → T (allZero k) → T (fits B w) → T (isWavelength w)
+    → Zero (sampleOne k w)
+unfolding sampleOne sampleOneAt allZero allWithin upperWeight
+zero-sample k w all len z f h = ended (eq w terminated)
+  where
+    place : Place denseStep w 94
+    place = dense-place w f h
+
+    j : ℕ
+    j = upperPoint denseStep w
+
+    at : (i : ℕ) → i ≤ 94 → Fine (entry k i) 0
+    at i l =
+        let inside = lt-of-le-of-lt l (lt-of-lt-of-le (lit< {m = 94} {n = 95} tt) (le-of-eq (sym len))) in
+        zero-entry (entry k i) (all i) (entry-every (within f0 f0) k i z inside)
+
+    below : (n : ℕ) → n ≤ 94 → n - 1 ≤ 94
+    below n l = omega arith
+
+    x : Float
+    x = upperWeight denseStep w
+
+    between : (b : Bool) → eq w (upperLambda denseStep w) ≡ b → Zero (cond b (entry k j) (interpolate x (entry k (j - 1)) (entry k j)))
+    between true e = inl (lt-of-le-of-lt zero-le U-O, at j (place .last))
+    between false e =
+        let s = place .weight (place .inner e) in
+        let fx = div-fits B (w ⊖ (upperLambda denseStep w ⊖ denseStep)) denseStep in
+        zero-between x (entry k (j - 1)) (entry k j) fx (s .1) (s .2) (at (j - 1) (below j (place .last))) (at j (place .last))
+
+    ended : (b : Bool) → Zero (cond b f0 (cond (eq w (upperLambda denseStep w)) (entry k j) (interpolate x (entry k (j - 1)) (entry k j))))
+    ended true = nil-ext
+    ended false = between (eq w (upperLambda denseStep w)) refl
+
+-- on glass k is all zero
+pub glass-k-zero : (k : List Float) (lambda : Float) → AllFit k → T (kHolds Glass k) → T (fits B lambda) → T (isWavelength lambda)
+    → T (eq (kAt k lambda) f0)
+unfolding kHolds kEntriesHold isSpectrum kAt
+glass-k-zero k lambda all holds f w =
+    let entries = eqb→eq (length k) denseSamples (and-l (eqb (length k) denseSamples) (allZero k) holds) in
+    let zeros = and-r (eqb (length k) denseSamples) (allZero k) holds in
+    zero-eq (sampleOne k lambda) (zero-sample k lambda all entries zeros f w)

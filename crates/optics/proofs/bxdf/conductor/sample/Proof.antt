@@ -1,0 +1,18 @@
+-- `optics::bxdf::conductor::sample` meets its contract: the calls give what their contracts promise, and the definition is read in the same order.
+use Rattle.optics.specs.Bxdf.{conductorSample}
+use borrow.Author.Needs.{needs}
+use Rattle.optics.proofs.bxdf.conductor.sample.Statement.{statement}
+use Rattle.optics.proofs.bxdf.conductor.sample.Tie as tie
+
+normal-requires : tie.Need-normal-requires
+normal-requires c κs = search needs
+
+sample-from-requires : tie.Need-sample-from-requires
+sample-from-requires c κs = search needs
+
+returns : tie.Need-returns
+unfolding conductorSample
+returns c = rw (← c .before .normal .ensures, ← c .sample-from .ensures)
+
+pub sample-spec : {M : Type 1} → statement M
+sample-spec = tie.close (tie.spec normal-requires sample-from-requires returns)

@@ -1,0 +1,43 @@
+-- `optics::bxdf::refract` meets its contract: the calls give what their contracts promise, and the definition is read in the same order.
+use Rattle.optics.specs.Bxdf.{refract}
+use lib.Ieee.{ofBits}
+use borrow.Author.Needs.{needs}
+use Rattle.optics.proofs.bxdf.refract.Statement.{statement}
+use Rattle.optics.proofs.bxdf.refract.Tie as tie
+
+dot-requires : tie.Need-dot-requires
+dot-requires c κs = search needs
+
+negate-requires : tie.Need-negate-requires
+negate-requires c κs = search needs
+
+refract-facing-requires : tie.Need-refract-facing-requires
+refract-facing-requires c κs = search needs
+
+returns : tie.Need-returns
+unfolding refract ofBits
+returns c =
+    rw (
+      ← c .before .before .before .dot .ensures,
+      c .before .before .if1 .taken,
+      ← c .before .negate .ensures,
+      ← c .refract-facing .ensures,
+    )
+
+refract-facing-requires-2 : tie.Need-refract-facing-requires-2
+refract-facing-requires-2 c κs = search needs
+
+returns-2 : tie.Need-returns-2
+unfolding refract ofBits
+returns-2 c = rw (← c .before .before .dot .ensures, c .before .if1 .left, ← c .refract-facing2 .ensures)
+
+pub refract-spec : {M : Type 1} → statement M
+refract-spec =
+    tie.close
+    (tie.spec
+    dot-requires
+    negate-requires
+    refract-facing-requires
+    returns
+    refract-facing-requires-2
+    returns-2)

@@ -1,0 +1,16 @@
+-- `optics::checked::all_zero` meets its contract: the calls give what their contracts promise, and the definition is read in the same order.
+use Rattle.optics.specs.Surface.{allZero}
+use lib.Ieee.{ofBits}
+use borrow.Author.Needs.{needs}
+use Rattle.optics.proofs.checked.all_zero.Statement.{statement}
+use Rattle.optics.proofs.checked.all_zero.Tie as tie
+
+all-within-requires : tie.Need-all-within-requires
+all-within-requires c κs = search needs
+
+returns : tie.Need-returns
+unfolding allZero ofBits
+returns c = rw (← c .all-within .ensures)
+
+pub all-zero-spec : {M : Type 1} → statement M
+all-zero-spec = tie.close (tie.spec all-within-requires returns)

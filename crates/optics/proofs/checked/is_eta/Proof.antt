@@ -1,0 +1,17 @@
+-- `optics::checked::is_eta` meets its contract: the calls give what their contracts promise, and the definition is read in the same order.
+use Rattle.numbers.specs.Float.{decimal}
+use Rattle.optics.specs.Surface.{isEta, etaMin}
+use lib.Ieee.{ofBits}
+use borrow.Author.Needs.{needs}
+use Rattle.optics.proofs.checked.is_eta.Statement.{statement}
+use Rattle.optics.proofs.checked.is_eta.Tie as tie
+
+within-requires : tie.Need-within-requires
+within-requires c κs = search needs
+
+returns : tie.Need-returns
+unfolding isEta etaMin decimal ofBits
+returns c = rw (← c .within .ensures)
+
+pub is-eta-spec : {M : Type 1} → statement M
+is-eta-spec = tie.close (tie.spec within-requires returns)

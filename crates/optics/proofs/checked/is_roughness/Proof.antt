@@ -1,0 +1,17 @@
+-- `optics::checked::is_roughness` meets its contract: the calls give what their contracts promise, and the definition is read in the same order.
+use Rattle.numbers.specs.Float.{decimal}
+use Rattle.optics.specs.Surface.{isRoughness, roughnessMin}
+use lib.Ieee.{ofBits}
+use borrow.Author.Needs.{needs}
+use Rattle.optics.proofs.checked.is_roughness.Statement.{statement}
+use Rattle.optics.proofs.checked.is_roughness.Tie as tie
+
+within-requires : tie.Need-within-requires
+within-requires c κs = search needs
+
+returns : tie.Need-returns
+unfolding isRoughness roughnessMin decimal ofBits
+returns c = rw (← c .within .ensures)
+
+pub is-roughness-spec : {M : Type 1} → statement M
+is-roughness-spec = tie.close (tie.spec within-requires returns)

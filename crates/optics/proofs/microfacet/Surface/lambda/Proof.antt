@@ -1,0 +1,61 @@
+-- `optics::microfacet::Surface::lambda` meets its contract: the calls give what their contracts promise, and the definition is read in the same order.
+use Rattle.numbers.specs.Float.{powi2}
+use Rattle.numbers.specs.SphericalUtils.{tan2Theta, sin2Theta, cos2Theta, sinTheta, cosPhi, sinPhi}
+use Rattle.optics.specs.Facets.{lambda, lambdaOf, alpha2, azimuth}
+use lib.Ieee.{ofBits}
+use borrow.Author.Needs.{needs}
+use Rattle.optics.proofs.microfacet.Surface.lambda.Statement.{statement}
+use Rattle.optics.proofs.microfacet.Surface.lambda.Tie as tie
+
+max-requires : tie.Need-max-requires
+max-requires c κs = search needs
+
+is-infinite-requires : tie.Need-is-infinite-requires
+is-infinite-requires c κs = search needs
+
+returns : tie.Need-returns
+unfolding lambda lambdaOf alpha2 tan2Theta sin2Theta cos2Theta sinTheta cosPhi sinPhi azimuth powi2 ofBits
+returns c = rw (← c .before .before .max .ensures, ← c .before .is-infinite .ensures, c .if1 .taken)
+
+sqrt-requires : tie.Need-sqrt-requires
+sqrt-requires c κs = search needs
+
+azimuth-requires : tie.Need-azimuth-requires
+azimuth-requires c κs = search needs
+
+azimuth-requires-2 : tie.Need-azimuth-requires-2
+azimuth-requires-2 c κs = search needs
+
+max-requires-2 : tie.Need-max-requires-2
+max-requires-2 c κs = search needs
+
+sqrt-requires-2 : tie.Need-sqrt-requires-2
+sqrt-requires-2 c κs = search needs
+
+returns-2 : tie.Need-returns-2
+unfolding lambda lambdaOf alpha2 tan2Theta sin2Theta cos2Theta sinTheta cosPhi sinPhi azimuth powi2 ofBits
+returns-2 c =
+    rw (
+      ← c .before .before .before .before .before .before .before .before .before .max .ensures,
+      ← c .before .before .before .before .before .before .before .before .is-infinite .ensures,
+      c .before .before .before .before .before .before .before .if1 .left,
+      ← c .before .before .before .before .before .before .sqrt .ensures,
+      ← c .before .before .before .before .before .azimuth .ensures,
+      ← c .before .before .before .azimuth2 .ensures,
+      ← c .before .max2 .ensures,
+      ← c .sqrt2 .ensures,
+    )
+
+pub lambda-spec : {M : Type 1} → statement M
+lambda-spec =
+    tie.close
+    (tie.spec
+    max-requires
+    is-infinite-requires
+    returns
+    sqrt-requires
+    azimuth-requires
+    azimuth-requires-2
+    max-requires-2
+    sqrt-requires-2
+    returns-2)

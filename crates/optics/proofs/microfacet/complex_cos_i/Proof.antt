@@ -1,0 +1,32 @@
+-- `optics::microfacet::complex_cos_i` meets its contract: the calls give what their contracts promise, and the definition is read in the same order.
+use Rattle.optics.specs.Fresnel.{complexCosI}
+use lib.Ieee.{ofBits}
+use borrow.Author.Needs.{needs}
+use Rattle.optics.proofs.microfacet.complex_cos_i.Statement.{statement}
+use Rattle.optics.proofs.microfacet.complex_cos_i.Tie as tie
+
+mul-requires : tie.Need-mul-requires
+mul-requires c κs = search needs
+
+float-div-requires : tie.Need-float-div-requires
+float-div-requires c κs = search needs
+
+float-sub-requires : tie.Need-float-sub-requires
+float-sub-requires c κs = search needs
+
+sqrt-requires : tie.Need-sqrt-requires
+sqrt-requires c κs = search needs
+
+returns : tie.Need-returns
+unfolding complexCosI ofBits
+returns c =
+    rw (
+      ← c .before .before .before .mul .ensures,
+      ← c .before .before .float-div .ensures,
+      ← c .before .float-sub .ensures,
+      ← c .sqrt .ensures,
+    )
+
+pub complex-cos-i-spec : {M : Type 1} → statement M
+complex-cos-i-spec =
+    tie.close (tie.spec mul-requires float-div-requires float-sub-requires sqrt-requires returns)

@@ -1,0 +1,15 @@
+-- `optics::microfacet::constant_eta` meets its contract: the calls give what their contracts promise, and the definition is read in the same order.
+use Rattle.optics.specs.Surface.{constantEta}
+use borrow.Author.Needs.{needs}
+use Rattle.optics.proofs.microfacet.constant_eta.Statement.{statement}
+use Rattle.optics.proofs.microfacet.constant_eta.Tie as tie
+
+is-constant-requires : tie.Need-is-constant-requires
+is-constant-requires c κs = search needs
+
+returns : tie.Need-returns
+unfolding constantEta
+returns c = rw (← c .is-constant .ensures)
+
+pub constant-eta-spec : {M : Type 1} → statement M
+constant-eta-spec = tie.close (tie.spec is-constant-requires returns)

@@ -1,0 +1,16 @@
+-- `optics::microfacet::f_schlick` meets its contract: the calls give what their contracts promise, and the definition is read in the same order.
+use Rattle.optics.specs.Facets.{fSchlick}
+use lib.Ieee.{ofBits}
+use borrow.Author.Needs.{needs}
+use Rattle.optics.proofs.microfacet.f_schlick.Statement.{statement}
+use Rattle.optics.proofs.microfacet.f_schlick.Tie as tie
+
+powi5-requires : tie.Need-powi5-requires
+powi5-requires c κs = search needs
+
+returns : tie.Need-returns
+unfolding fSchlick ofBits
+returns c = rw (← c .powi5 .ensures)
+
+pub f-schlick-spec : {M : Type 1} → statement M
+f-schlick-spec = tie.close (tie.spec powi5-requires returns)

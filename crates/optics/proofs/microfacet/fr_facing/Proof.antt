@@ -1,0 +1,23 @@
+-- `optics::microfacet::fr_facing` meets its contract: the calls give what their contracts promise, and the definition is read in the same order.
+use Rattle.optics.specs.Fresnel.{frFacing, sin2I, isTotal, cosI, unpolarized, contrast, meanSquare}
+use lib.Ieee.{ofBits}
+use borrow.Author.Needs.{needs}
+use Rattle.optics.proofs.microfacet.fr_facing.Statement.{statement}
+use Rattle.optics.proofs.microfacet.fr_facing.Tie as tie
+
+returns : tie.Need-returns
+unfolding frFacing sin2I isTotal cosI unpolarized contrast meanSquare ofBits
+returns c = rw (c .if1 .taken)
+
+max-requires : tie.Need-max-requires
+max-requires c κs = search needs
+
+sqrt-requires : tie.Need-sqrt-requires
+sqrt-requires c κs = search needs
+
+returns-2 : tie.Need-returns-2
+unfolding frFacing sin2I isTotal cosI unpolarized contrast meanSquare ofBits
+returns-2 c = rw (c .before .before .if1 .left, ← c .before .max .ensures, ← c .sqrt .ensures)
+
+pub fr-facing-spec : {M : Type 1} → statement M
+fr-facing-spec = tie.close (tie.spec returns max-requires sqrt-requires returns-2)

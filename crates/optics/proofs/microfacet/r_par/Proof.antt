@@ -1,0 +1,30 @@
+-- `optics::microfacet::r_par` meets its contract: the calls give what their contracts promise, and the definition is read in the same order.
+use Rattle.optics.specs.Fresnel.{rPar}
+use borrow.Author.Needs.{needs}
+use Rattle.optics.proofs.microfacet.r_par.Statement.{statement}
+use Rattle.optics.proofs.microfacet.r_par.Tie as tie
+
+mul-float-requires : tie.Need-mul-float-requires
+mul-float-requires c κs = search needs
+
+sub-requires : tie.Need-sub-requires
+sub-requires c κs = search needs
+
+add-requires : tie.Need-add-requires
+add-requires c κs = search needs
+
+div-requires : tie.Need-div-requires
+div-requires c κs = search needs
+
+returns : tie.Need-returns
+unfolding rPar
+returns c =
+    rw (
+      ← c .before .before .before .mul-float .ensures,
+      ← c .before .before .sub .ensures,
+      ← c .before .add .ensures,
+      ← c .div .ensures,
+    )
+
+pub r-par-spec : {M : Type 1} → statement M
+r-par-spec = tie.close (tie.spec mul-float-requires sub-requires add-requires div-requires returns)

@@ -1,0 +1,10 @@
+-- Four samples of a spectrum, one for each wavelength of a path (lumo's src/tracer/color.rs, SPECTRUM_SAMPLES = 4). Definitions only.
+use lib.Ieee.{Float}
+use Rattle.optics.specs.declared.color.Color.{Color}
+
+abbrev pub color : Float → Float → Float → Float → Color
+color a b c d = record { s0 = a; s1 = b; s2 = c; s3 = d }
+
+-- a function of each sample
+abbrev pub each : (Float → Float) → Color → Color
+each f a = color (f (a .s0)) (f (a .s1)) (f (a .s2)) (f (a .s3))

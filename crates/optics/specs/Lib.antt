@@ -1,0 +1,10 @@
+-- What the contracts of the crate cite: definitions only, each with its source.
+pub mod Color
+pub mod Surface
+pub mod Facets
+pub mod Fresnel
+pub mod Sampler
+pub mod Bxdf
+pub mod Density
+pub mod Checked
+pub mod Samples

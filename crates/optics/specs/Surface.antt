@@ -1,0 +1,86 @@
+-- A surface of metal or glass, what it may hold, and its spectra at a wavelength (document 01, "Records"; lumo's `MicrofacetConfig`). Definitions only.
+use mathlib.Core.Bool.{Bool, false, _&&_, _||_}
+use mathlib.Core.List.{List}
+use lib.Dec.{eqb}
+use lib.ListN.{length}
+use lib.Ieee.{Float, fin}
+use lib.IntN.{pos}
+use Rattle.numbers.specs.Float.{f0, f1, decimal, max, within}
+use Rattle.numbers.specs.DenseSpectrum.{denseSamples, sampleOne, isConstant, allWithin}
+use Rattle.numbers.specs.Vec2.{splat}
+use Rattle.numbers.specs.declared.vec2.Vec2.{Vec2}
+use Rattle.optics.specs.declared.microfacet.Kind.{Kind}
+use Rattle.optics.specs.declared.microfacet.Kind.the-variants.{Metal, Glass}
+use Rattle.optics.specs.declared.microfacet.Surface.{Surface}
+
+-- A surface with its spectra: the refraction index eta and the absorption coefficient k.
+pub record Microsurface : Type 0 where
+  pub kind : Kind
+  pub roughness : Vec2
+  pub eta : List Float
+  pub k : List Float
+
+abbrev pub microsurface : Surface → List Float → List Float → Microsurface
+microsurface s eta k = record { kind = s .kind; roughness = s .roughness; eta = eta; k = k }
+
+-- ---- limits, each in this one place
+unfoldable pub roughnessMin : Float
+roughnessMin = decimal 1 100000
+
+unfoldable pub isRoughness : Float → Bool
+isRoughness a = within roughnessMin f1 a
+
+unfoldable pub etaMin : Float
+etaMin = decimal 1 100
+
+abbrev pub etaMax : Float
+etaMax = fin false 25 (pos 2)
+
+unfoldable pub kMin : Float
+kMin = decimal 1 1000000
+
+abbrev pub kMax : Float
+kMax = fin false 25 (pos 2)
+
+-- the index of a lone bend, held to the limits of eta's entries
+unfoldable pub isEta : Float → Bool
+isEta eta = within etaMin etaMax eta
+
+-- ---- the fields of a surface
+unfoldable pub roughnessHolds : Vec2 → Bool
+roughnessHolds a = isRoughness (a .x) && isRoughness (a .y)
+
+unfoldable pub isSpectrum : List Float → Bool
+isSpectrum values = eqb (length values) denseSamples
+
+unfoldable pub etaHolds : List Float → Bool
+etaHolds eta = isSpectrum eta && allWithin etaMin etaMax eta
+
+-- every entry from 0 to 0, which is zero of either sign
+unfoldable pub allZero : List Float → Bool
+allZero k = allWithin f0 f0 k
+
+-- k is all zero, or on metal within its limits
+unfoldable pub kEntriesHold : Kind → List Float → Bool
+kEntriesHold Metal k = allZero k || allWithin kMin kMax k
+kEntriesHold Glass k = allZero k
+
+unfoldable pub kHolds : Kind → List Float → Bool
+kHolds kind k = isSpectrum k && kEntriesHold kind k
+
+-- ---- the spectra at a wavelength: the one place where eta is read, and where it counts as constant
+unfoldable pub etaAt : List Float → Float → Float
+etaAt eta lambda = sampleOne eta lambda
+
+unfoldable pub kAt : List Float → Float → Float
+kAt k lambda = sampleOne k lambda
+
+unfoldable pub constantEta : List Float → Bool
+constantEta eta = isConstant eta
+
+-- ---- a surface from one number: from 0 to 1, raised to the least roughness
+unfoldable pub isRoughnessGiven : Float → Bool
+isRoughnessGiven r = within f0 f1 r
+
+unfoldable pub surface : Kind → Float → Surface
+surface kind r = record { kind = kind; roughness = splat (max r roughnessMin) }

@@ -1,0 +1,181 @@
+// Microfacet dielectric.
+use crate::bxdf;
+use crate::bxdf::Reflected;
+use crate::bxdf::Refracted;
+use crate::bxdf::Sampled;
+use crate::microfacet;
+use crate::microfacet::Surface;
+use numbers::float;
+use numbers::vec3::Vec3;
+ghost use mathlib.Core.Path.{_≡_};
+ghost use Rattle.optics.specs.Bxdf.{sampled, isSmooth, dielectricNormal, dielectricFrom, dielectricSample};
+ghost use Rattle.numbers.specs.Vec3.{dot};
+ghost use Rattle.optics.specs.Density.{etaRatio, dielectricHalf, isDiscarded, reflectedPdf, passedPdf, dielectricAt, dielectricPdf};
+
+// Glass that scatters into one direction: delta, or of the index 1.0.
+pub fn is_smooth(mfd: Surface, eta: f64) -> bool
+    ensures { λ r. ⌜ r ≡ isSmooth (mfd .roughness) eta ⌝ }
+{
+    if eta == 1.0 {
+        return true;
+    }
+    mfd.is_delta()
+}
+
+// The facet's normal: Z for delta and index matched glass.
+pub fn normal(wo: Vec3, mfd: Surface, eta: f64, disk: f64, c: f64, s: f64) -> Vec3
+    ensures { λ r. ⌜ r ≡ dielectricNormal (mfd .roughness) eta wo disk c s ⌝ }
+{
+    if is_smooth(mfd, eta) {
+        return Vec3::Z;
+    }
+    mfd.sample_normal(wo, disk, c, s)
+}
+
+// The direction that the facet's normal `wh` sends on, `pr` being the share that is reflected.
+pub fn sample_from(wo: Vec3, wh: Vec3, eta: f64, pr: f64, rand_u: f64) -> Sampled
+    ensures { λ r. ⌜ sampled r ≡ dielectricFrom eta pr «rand_u» wo wh ⌝ }
+{
+    // importance sample reflection/transmission with fresnel
+    let pt = 1.0 - pr;
+    if rand_u < pr / (pr + pt) {
+        return match bxdf::reflect(wo, wh) {
+            Reflected::Direction(wi) => Sampled::Direction {
+                wi: wi,
+                reflection: true,
+            },
+            Reflected::None => Sampled::None,
+        };
+    }
+    match bxdf::refract(eta, wo, wh) {
+        Refracted::Direction(wi) => Sampled::Direction {
+            wi: wi,
+            reflection: false,
+        },
+        Refracted::None => Sampled::None,
+        Refracted::Total => Sampled::Total,
+    }
+}
+
+// `eta` and `k` are those at the leading wavelength.
+pub fn sample(
+    wo: Vec3,
+    mfd: Surface,
+    eta: f64,
+    k: f64,
+    rand_u: f64,
+    disk: f64,
+    c: f64,
+    s: f64,
+) -> Sampled
+    ensures { λ r. ⌜ sampled r ≡ dielectricSample (mfd .roughness) eta k wo «rand_u» disk c s ⌝ }
+{
+    let wh = normal(wo, mfd, eta, disk, c, s);
+    sample_from(wo, wh, eta, microfacet::f_at(wo, wh, eta, k), rand_u)
+}
+
+pub fn pdf(wo: Vec3, wi: Vec3, reflection: bool, mfd: Surface, eta: f64, k: f64) -> f64
+    ensures { λ r. ⌜ r ≡ dielectricPdf (mfd .roughness) eta k reflection wo wi ⌝ }
+{
+    let ratio = eta_ratio(reflection, wo, eta);
+    let wh = half(eta, ratio, wo, wi);
+    pdf_at(wo, wi, wh, reflection, mfd, eta, k, ratio)
+}
+
+fn eta_ratio(reflection: bool, wo: Vec3, eta: f64) -> f64
+    ensures { λ r. ⌜ r ≡ etaRatio reflection wo eta ⌝ }
+{
+    if reflection {
+        return 1.0;
+    }
+    if wo.z < 0.0 {
+        return 1.0 / eta;
+    }
+    eta
+}
+
+// The normal that takes `wo` to `wi`.
+fn half(eta: f64, ratio: f64, wo: Vec3, wi: Vec3) -> Vec3
+    ensures { λ r. ⌜ r ≡ dielectricHalf eta ratio wo wi ⌝ }
+{
+    if eta == 1.0 {
+        return bxdf::on_z_side(Vec3::Z);
+    }
+    bxdf::on_z_side(wo.add(wi.mul_float(ratio)).normalize())
+}
+
+fn pdf_at(
+    wo: Vec3,
+    wi: Vec3,
+    wh: Vec3,
+    reflection: bool,
+    mfd: Surface,
+    eta: f64,
+    k: f64,
+    ratio: f64,
+) -> f64
+    ensures { λ r. ⌜ r ≡ dielectricAt (mfd .roughness) eta k ratio reflection wo wi wh ⌝ }
+{
+    let wh_dot_wo = wo.dot(wh);
+    let wh_dot_wi = wi.dot(wh);
+    if is_discarded(wh_dot_wo, wh_dot_wi, wo, wi) {
+        return 0.0;
+    }
+    let pr = microfacet::fresnel(wh_dot_wo, eta, k);
+    if reflection {
+        return reflected_pdf(mfd, eta, pr, wh_dot_wo, wo, wh);
+    }
+    passed_pdf(mfd, eta, ratio, pr, wh_dot_wo, wh_dot_wi, wo, wi, wh)
+}
+
+// A facet along `wo` or `wi`, or a backfacing one.
+fn is_discarded(wh_dot_wo: f64, wh_dot_wi: f64, wo: Vec3, wi: Vec3) -> bool
+    ensures { λ r. ⌜ r ≡ isDiscarded «wh_dot_wo» «wh_dot_wi» wo wi ⌝ }
+{
+    if wh_dot_wo == 0.0 {
+        return true;
+    }
+    if wh_dot_wi == 0.0 {
+        return true;
+    }
+    if wh_dot_wo * wo.z < 0.0 {
+        return true;
+    }
+    wh_dot_wi * wi.z < 0.0
+}
+
+// Reflection, `pr` being its share.
+fn reflected_pdf(mfd: Surface, eta: f64, pr: f64, wh_dot_wo: f64, wo: Vec3, wh: Vec3) -> f64
+    requires { ⌜ «wh_dot_wo» ≡ dot wo wh ⌝ }
+    ensures { λ r. ⌜ r ≡ reflectedPdf (mfd .roughness) eta pr wo wh ⌝ }
+{
+    let pt = 1.0 - pr;
+    if is_smooth(mfd, eta) {
+        return bxdf::at_z(wh, pr / (pr + pt));
+    }
+    mfd.sample_normal_pdf_at(wh_dot_wo, wh, wo) / (4.0 * float::abs(wh_dot_wo)) * pr / (pr + pt)
+}
+
+// Transmission, `1.0 - pr` being its share.
+fn passed_pdf(
+    mfd: Surface,
+    eta: f64,
+    ratio: f64,
+    pr: f64,
+    wh_dot_wo: f64,
+    wh_dot_wi: f64,
+    wo: Vec3,
+    wi: Vec3,
+    wh: Vec3,
+) -> f64
+    requires { ⌜ («wh_dot_wo» ≡ dot wo wh) × («wh_dot_wi» ≡ dot wi wh) ⌝ }
+    ensures { λ r. ⌜ r ≡ passedPdf (mfd .roughness) eta ratio pr wo wi wh ⌝ }
+{
+    let pt = 1.0 - pr;
+    if is_smooth(mfd, eta) {
+        return bxdf::at_z(wh, pt / (pr + pt));
+    }
+    let root = wh_dot_wi + wh_dot_wo / ratio;
+    mfd.sample_normal_pdf_at(wh_dot_wo, wh, wo) * float::abs(wh_dot_wi) / (root * root) * pt
+        / (pr + pt)
+}

@@ -1,0 +1,497 @@
+// The calls at the counter: each checks what it is handed, in document 01's order, and answers a
+// value or the refusal. A surface is its record with its spectra beside it, and its fields are
+// checked first.
+use crate::bxdf;
+use crate::bxdf::Reflected;
+use crate::bxdf::Refracted;
+use crate::color::Color;
+use crate::microfacet;
+use crate::microfacet::Kind;
+use crate::microfacet::Surface;
+use numbers::checked::BoolAnswer;
+use numbers::checked::FloatAnswer;
+use numbers::checked::Vec3Answer;
+use numbers::dense_spectrum;
+use numbers::dense_spectrum::DenseSpectrum;
+use numbers::float;
+use numbers::refusal::Refusal;
+use numbers::vec2::Vec2;
+use numbers::vec3::Vec3;
+ghost use mathlib.Core.Path.{_≡_};
+ghost use Rattle.numbers.specs.Checked.{floatAnswer, boolAnswer, vec3Answer};
+ghost use Rattle.optics.specs.Surface.{microsurface, isRoughness, roughnessHolds, isSpectrum, etaHolds, isEta, allZero, kEntriesHold, kHolds};
+ghost use Rattle.optics.specs.Checked as Checked;
+ghost use Rattle.optics.specs.Checked.{verdict, surfaceAnswer, colorAnswer, reflectAnswer, refractAnswer};
+
+// The limits of a surface's fields.
+const ROUGHNESS_MIN: f64 = 1e-5;
+
+const ETA_MIN: f64 = 0.01;
+
+const ETA_MAX: f64 = 100.0;
+
+const K_MIN: f64 = 1e-6;
+
+const K_MAX: f64 = 100.0;
+
+// Whether a check passed, and why not.
+pub enum Check {
+    Accepted,
+    Refused(Refusal),
+}
+
+// A surface that was made; its spectra are those that were lent for the making.
+pub enum SurfaceAnswer {
+    Refused(Refusal),
+    Given(Surface),
+}
+
+// A Fresnel term at four wavelengths.
+pub enum ColorAnswer {
+    Refused(Refusal),
+    Given(Color),
+}
+
+// What a mirror answers.
+pub enum ReflectAnswer {
+    Refused(Refusal),
+    Direction(Vec3),
+    None,
+}
+
+// What a bend answers: `Total` at total internal reflection.
+pub enum RefractAnswer {
+    Refused(Refusal),
+    Direction(Vec3),
+    None,
+    Total,
+}
+
+fn is_roughness(a: f64) -> bool
+    ensures { λ r. ⌜ r ≡ isRoughness a ⌝ }
+{
+    float::within(ROUGHNESS_MIN, 1.0, a)
+}
+
+fn roughness_holds(a: Vec2) -> bool
+    ensures { λ r. ⌜ r ≡ roughnessHolds a ⌝ }
+{
+    if is_roughness(a.x) {
+        return is_roughness(a.y);
+    }
+    false
+}
+
+fn is_eta(eta: f64) -> bool
+    ensures { λ r. ⌜ r ≡ isEta eta ⌝ }
+{
+    float::within(ETA_MIN, ETA_MAX, eta)
+}
+
+fn is_spectrum(values: &[f64]) -> bool
+    ensures { λ r. ⌜ r ≡ isSpectrum (now (values .entry)) ⌝ }
+{
+    values.len() == DenseSpectrum::SAMPLES
+}
+
+fn eta_holds(eta: &[f64]) -> bool
+    ensures { λ r. ⌜ r ≡ etaHolds (now (eta .entry)) ⌝ }
+{
+    if is_spectrum(eta) {
+        return dense_spectrum::all_within(eta, ETA_MIN, ETA_MAX);
+    }
+    false
+}
+
+fn all_zero(k: &[f64]) -> bool
+    ensures { λ r. ⌜ r ≡ allZero (now (k .entry)) ⌝ }
+{
+    dense_spectrum::all_within(k, 0.0, 0.0)
+}
+
+fn k_entries_hold(kind: Kind, k: &[f64]) -> bool
+    ensures { λ r. ⌜ r ≡ kEntriesHold kind (now (k .entry)) ⌝ }
+{
+    match kind {
+        Kind::Metal => {
+            if all_zero(k) {
+                return true;
+            }
+            dense_spectrum::all_within(k, K_MIN, K_MAX)
+        }
+        Kind::Glass => all_zero(k),
+    }
+}
+
+fn k_holds(kind: Kind, k: &[f64]) -> bool
+    ensures { λ r. ⌜ r ≡ kHolds kind (now (k .entry)) ⌝ }
+{
+    if is_spectrum(k) {
+        return k_entries_hold(kind, k);
+    }
+    false
+}
+
+// The fields of a surface.
+pub fn check_surface(surface: Surface, eta: &[f64], k: &[f64]) -> Check
+    ensures { λ r. ⌜ verdict r ≡ Checked.checkSurface (microsurface surface (now (eta .entry)) (now (k .entry))) ⌝ }
+{
+    if roughness_holds(surface.roughness) {
+        if eta_holds(eta) {
+            let kind = surface.kind;
+            if k_holds(kind, k) {
+                return Check::Accepted;
+            }
+            return Check::Refused(Refusal::K);
+        }
+        return Check::Refused(Refusal::Eta);
+    }
+    Check::Refused(Refusal::Roughness)
+}
+
+// The index of a lone bend.
+fn check_eta(eta: f64) -> Check
+    ensures { λ r. ⌜ verdict r ≡ Checked.checkEta eta ⌝ }
+{
+    if is_eta(eta) {
+        return Check::Accepted;
+    }
+    Check::Refused(Refusal::Eta)
+}
+
+pub fn check_direction(w: Vec3) -> Check
+    ensures { λ r. ⌜ verdict r ≡ Checked.checkDirection w ⌝ }
+{
+    if w.is_direction() {
+        return Check::Accepted;
+    }
+    Check::Refused(Refusal::Direction)
+}
+
+// A wavelength as in a lookup: 0 is accepted.
+pub fn check_lookup(lambda: f64) -> Check
+    ensures { λ r. ⌜ verdict r ≡ Checked.checkLookup lambda ⌝ }
+{
+    if dense_spectrum::is_lookup_wavelength(lambda) {
+        return Check::Accepted;
+    }
+    Check::Refused(Refusal::Wavelength)
+}
+
+pub fn check_lookups(lambda: Color) -> Check
+    ensures { λ r. ⌜ verdict r ≡ Checked.checkLookups lambda ⌝ }
+{
+    if dense_spectrum::is_lookup_wavelength(lambda.s0) {
+        if dense_spectrum::is_lookup_wavelength(lambda.s1) {
+            if dense_spectrum::is_lookup_wavelength(lambda.s2) {
+                if dense_spectrum::is_lookup_wavelength(lambda.s3) {
+                    return Check::Accepted;
+                }
+            }
+        }
+    }
+    Check::Refused(Refusal::Wavelength)
+}
+
+// A wavelength that is not ended.
+pub fn check_wavelength(lambda: f64) -> Check
+    ensures { λ r. ⌜ verdict r ≡ Checked.checkWavelength lambda ⌝ }
+{
+    if dense_spectrum::is_wavelength(lambda) {
+        return Check::Accepted;
+    }
+    Check::Refused(Refusal::Wavelength)
+}
+
+// A random number: from 0 to below 1.
+pub fn check_random(u: f64) -> Check
+    ensures { λ r. ⌜ verdict r ≡ Checked.checkRandom u ⌝ }
+{
+    if 0.0 <= u {
+        if u < 1.0 {
+            return Check::Accepted;
+        }
+    }
+    Check::Refused(Refusal::RandomNumber)
+}
+
+fn is_circle_pair(c: f64, s: f64) -> bool
+    ensures { λ r. ⌜ r ≡ Checked.isCirclePair c s ⌝ }
+{
+    if float::within(-1.0, 1.0, c) {
+        if float::within(-1.0, 1.0, s) {
+            return float::within(0.999999999999, 1.000000000001, c * c + s * s);
+        }
+    }
+    false
+}
+
+// The cosine and the sine of an angle.
+pub fn check_circle_pair(c: f64, s: f64) -> Check
+    ensures { λ r. ⌜ verdict r ≡ Checked.checkCirclePair c s ⌝ }
+{
+    if is_circle_pair(c, s) {
+        return Check::Accepted;
+    }
+    Check::Refused(Refusal::CirclePair)
+}
+
+// A surface from one roughness, which is raised to the least.
+pub fn make_surface(kind: Kind, roughness: f64, eta: &[f64], k: &[f64]) -> SurfaceAnswer
+    ensures { λ r. ⌜ surfaceAnswer r ≡ Checked.makeSurface kind roughness (now (eta .entry)) (now (k .entry)) ⌝ }
+{
+    if float::within(0.0, 1.0, roughness) {
+        if eta_holds(eta) {
+            if k_holds(kind, k) {
+                let raised = Vec2::splat(float::max(roughness, ROUGHNESS_MIN));
+                return SurfaceAnswer::Given(Surface {
+                    kind: kind,
+                    roughness: raised,
+                });
+            }
+            return SurfaceAnswer::Refused(Refusal::K);
+        }
+        return SurfaceAnswer::Refused(Refusal::Eta);
+    }
+    SurfaceAnswer::Refused(Refusal::Roughness)
+}
+
+// ---- facet terms
+pub fn is_delta(surface: Surface, eta: &[f64], k: &[f64]) -> BoolAnswer
+    ensures { λ r. ⌜ boolAnswer r ≡ Checked.isDelta (microsurface surface (now (eta .entry)) (now (k .entry))) ⌝ }
+{
+    if let Check::Refused(why) = check_surface(surface, eta, k) {
+        return BoolAnswer::Refused(why);
+    }
+    BoolAnswer::Given(surface.is_delta())
+}
+
+pub fn lambda(surface: Surface, eta: &[f64], k: &[f64], w: Vec3) -> FloatAnswer
+    ensures { λ r. ⌜ floatAnswer r ≡ Checked.lambda (microsurface surface (now (eta .entry)) (now (k .entry))) w ⌝ }
+{
+    if let Check::Refused(why) = check_surface(surface, eta, k) {
+        return FloatAnswer::Refused(why);
+    }
+    if let Check::Refused(why) = check_direction(w) {
+        return FloatAnswer::Refused(why);
+    }
+    FloatAnswer::Given(surface.lambda(w))
+}
+
+pub fn chi_pass(surface: Surface, eta: &[f64], k: &[f64], wo: Vec3, wh: Vec3) -> BoolAnswer
+    ensures { λ r. ⌜ boolAnswer r ≡ Checked.chiPass (microsurface surface (now (eta .entry)) (now (k .entry))) wo wh ⌝ }
+{
+    if let Check::Refused(why) = check_surface(surface, eta, k) {
+        return BoolAnswer::Refused(why);
+    }
+    if let Check::Refused(why) = check_direction(wo) {
+        return BoolAnswer::Refused(why);
+    }
+    if let Check::Refused(why) = check_direction(wh) {
+        return BoolAnswer::Refused(why);
+    }
+    BoolAnswer::Given(microfacet::chi_pass(wo, wh))
+}
+
+pub fn g1(surface: Surface, eta: &[f64], k: &[f64], wo: Vec3, wh: Vec3) -> FloatAnswer
+    ensures { λ r. ⌜ floatAnswer r ≡ Checked.g1 (microsurface surface (now (eta .entry)) (now (k .entry))) wo wh ⌝ }
+{
+    if let Check::Refused(why) = check_surface(surface, eta, k) {
+        return FloatAnswer::Refused(why);
+    }
+    if let Check::Refused(why) = check_direction(wo) {
+        return FloatAnswer::Refused(why);
+    }
+    if let Check::Refused(why) = check_direction(wh) {
+        return FloatAnswer::Refused(why);
+    }
+    FloatAnswer::Given(surface.g1(wo, wh))
+}
+
+pub fn g(surface: Surface, eta: &[f64], k: &[f64], wo: Vec3, wi: Vec3, wh: Vec3) -> FloatAnswer
+    ensures { λ r. ⌜ floatAnswer r ≡ Checked.g (microsurface surface (now (eta .entry)) (now (k .entry))) wo wi wh ⌝ }
+{
+    if let Check::Refused(why) = check_surface(surface, eta, k) {
+        return FloatAnswer::Refused(why);
+    }
+    if let Check::Refused(why) = check_direction(wo) {
+        return FloatAnswer::Refused(why);
+    }
+    if let Check::Refused(why) = check_direction(wi) {
+        return FloatAnswer::Refused(why);
+    }
+    if let Check::Refused(why) = check_direction(wh) {
+        return FloatAnswer::Refused(why);
+    }
+    FloatAnswer::Given(surface.g(wo, wi, wh))
+}
+
+pub fn d(surface: Surface, eta: &[f64], k: &[f64], wh: Vec3) -> FloatAnswer
+    ensures { λ r. ⌜ floatAnswer r ≡ Checked.d (microsurface surface (now (eta .entry)) (now (k .entry))) wh ⌝ }
+{
+    if let Check::Refused(why) = check_surface(surface, eta, k) {
+        return FloatAnswer::Refused(why);
+    }
+    if let Check::Refused(why) = check_direction(wh) {
+        return FloatAnswer::Refused(why);
+    }
+    FloatAnswer::Given(surface.d(wh))
+}
+
+// Any floats: it refuses only for its surface.
+pub fn disney_diffuse(
+    surface: Surface,
+    eta: &[f64],
+    k: &[f64],
+    cos_theta_wo: f64,
+    cos_theta_wi: f64,
+    cos_theta_wh: f64,
+) -> FloatAnswer
+    ensures { λ r. ⌜ floatAnswer r ≡ Checked.disneyDiffuse (microsurface surface (now (eta .entry)) (now (k .entry))) «cos_theta_wo» «cos_theta_wi» «cos_theta_wh» ⌝ }
+{
+    if let Check::Refused(why) = check_surface(surface, eta, k) {
+        return FloatAnswer::Refused(why);
+    }
+    FloatAnswer::Given(surface.disney_diffuse(cos_theta_wo, cos_theta_wi, cos_theta_wh))
+}
+
+// ---- Fresnel
+pub fn f_at(
+    surface: Surface,
+    eta: &[f64],
+    k: &[f64],
+    wo: Vec3,
+    wh: Vec3,
+    lambda: f64,
+) -> FloatAnswer
+    ensures { λ r. ⌜ floatAnswer r ≡ Checked.fAt (microsurface surface (now (eta .entry)) (now (k .entry))) wo wh lambda ⌝ }
+{
+    if let Check::Refused(why) = check_surface(surface, eta, k) {
+        return FloatAnswer::Refused(why);
+    }
+    if let Check::Refused(why) = check_direction(wo) {
+        return FloatAnswer::Refused(why);
+    }
+    if let Check::Refused(why) = check_direction(wh) {
+        return FloatAnswer::Refused(why);
+    }
+    if let Check::Refused(why) = check_lookup(lambda) {
+        return FloatAnswer::Refused(why);
+    }
+    let index = microfacet::eta_at(eta, lambda);
+    let absorption = microfacet::k_at(k, lambda);
+    FloatAnswer::Given(microfacet::f_at(wo, wh, index, absorption))
+}
+
+pub fn f(surface: Surface, eta: &[f64], k: &[f64], wo: Vec3, wh: Vec3, lambda: Color) -> ColorAnswer
+    ensures { λ r. ⌜ colorAnswer r ≡ Checked.f (microsurface surface (now (eta .entry)) (now (k .entry))) wo wh lambda ⌝ }
+{
+    if let Check::Refused(why) = check_surface(surface, eta, k) {
+        return ColorAnswer::Refused(why);
+    }
+    if let Check::Refused(why) = check_direction(wo) {
+        return ColorAnswer::Refused(why);
+    }
+    if let Check::Refused(why) = check_direction(wh) {
+        return ColorAnswer::Refused(why);
+    }
+    if let Check::Refused(why) = check_lookups(lambda) {
+        return ColorAnswer::Refused(why);
+    }
+    ColorAnswer::Given(microfacet::f(eta, k, wo, wh, lambda))
+}
+
+// ---- sampler, mirror, bend
+pub fn sample_normal(
+    surface: Surface,
+    eta: &[f64],
+    k: &[f64],
+    wo: Vec3,
+    disk: f64,
+    c: f64,
+    s: f64,
+) -> Vec3Answer
+    ensures { λ r. ⌜ vec3Answer r ≡ Checked.sampleNormal (microsurface surface (now (eta .entry)) (now (k .entry))) wo disk c s ⌝ }
+{
+    if let Check::Refused(why) = check_surface(surface, eta, k) {
+        return Vec3Answer::Refused(why);
+    }
+    if let Check::Refused(why) = check_direction(wo) {
+        return Vec3Answer::Refused(why);
+    }
+    if let Check::Refused(why) = check_random(disk) {
+        return Vec3Answer::Refused(why);
+    }
+    if let Check::Refused(why) = check_circle_pair(c, s) {
+        return Vec3Answer::Refused(why);
+    }
+    Vec3Answer::Given(surface.sample_normal(wo, disk, c, s))
+}
+
+pub fn reflect(wo: Vec3, n: Vec3) -> ReflectAnswer
+    ensures { λ r. ⌜ reflectAnswer r ≡ Checked.reflect wo n ⌝ }
+{
+    if let Check::Refused(why) = check_direction(wo) {
+        return ReflectAnswer::Refused(why);
+    }
+    if let Check::Refused(why) = check_direction(n) {
+        return ReflectAnswer::Refused(why);
+    }
+    match bxdf::reflect(wo, n) {
+        Reflected::Direction(wi) => ReflectAnswer::Direction(wi),
+        Reflected::None => ReflectAnswer::None,
+    }
+}
+
+pub fn refract(eta: f64, wo: Vec3, n: Vec3) -> RefractAnswer
+    ensures { λ r. ⌜ refractAnswer r ≡ Checked.refract eta wo n ⌝ }
+{
+    if let Check::Refused(why) = check_eta(eta) {
+        return RefractAnswer::Refused(why);
+    }
+    if let Check::Refused(why) = check_direction(wo) {
+        return RefractAnswer::Refused(why);
+    }
+    if let Check::Refused(why) = check_direction(n) {
+        return RefractAnswer::Refused(why);
+    }
+    match bxdf::refract(eta, wo, n) {
+        Refracted::Direction(wi) => RefractAnswer::Direction(wi),
+        Refracted::None => RefractAnswer::None,
+        Refracted::Total => RefractAnswer::Total,
+    }
+}
+
+// ---- density
+// Of the sampled directions, at the leading wavelength.
+pub fn pdf(
+    surface: Surface,
+    eta: &[f64],
+    k: &[f64],
+    wo: Vec3,
+    wi: Vec3,
+    reflection: bool,
+    lambda: f64,
+) -> FloatAnswer
+    ensures { λ r. ⌜ floatAnswer r ≡ Checked.pdf (microsurface surface (now (eta .entry)) (now (k .entry))) wo wi reflection lambda ⌝ }
+{
+    if let Check::Refused(why) = check_surface(surface, eta, k) {
+        return FloatAnswer::Refused(why);
+    }
+    if let Check::Refused(why) = check_direction(wo) {
+        return FloatAnswer::Refused(why);
+    }
+    if let Check::Refused(why) = check_direction(wi) {
+        return FloatAnswer::Refused(why);
+    }
+    if let Check::Refused(why) = check_wavelength(lambda) {
+        return FloatAnswer::Refused(why);
+    }
+    let index = microfacet::eta_at(eta, lambda);
+    let absorption = microfacet::k_at(k, lambda);
+    let density = bxdf::pdf(surface, wo, wi, reflection, index, absorption);
+    if float::is_finite(density) {
+        return FloatAnswer::Given(density);
+    }
+    FloatAnswer::Refused(Refusal::NotFinite)
+}

@@ -1,0 +1,400 @@
+// Facets of metal and glass: the GGX half of lumo's src/tracer/microfacet.rs.
+// These take any floats and refuse none; the forms that check stand in `checked`.
+use crate::color::Color;
+use numbers::EPSILON;
+use numbers::complex::Complex;
+use numbers::dense_spectrum::DenseSpectrum;
+use numbers::float;
+use numbers::square_root::sqrt;
+use numbers::vec2::Vec2;
+use numbers::vec3::Vec3;
+ghost use mathlib.Core.Path.{_≡_};
+ghost use Rattle.optics.specs.Facets.{isDelta, azimuth, lambda, chiPassAt, chiPass, g1At, g1, g, gOverG1, d, sampleNormalPdfAt, sampleNormalPdf, fSchlick, disneyDiffuse};
+ghost use Rattle.optics.specs.Fresnel.{frFacing, frReal, complexCosI, rPar, rPer, frComplexFacing, frComplex, fresnel, fAt, f};
+ghost use Rattle.optics.specs.Surface.{etaAt, kAt, constantEta};
+ghost use Rattle.optics.specs.Sampler.{viewed, tangent, onHemisphere, combined, unstretched, sampleNormal};
+
+pub const PI: f64 = 3.141592653589793;
+
+// Microfacet mirror (lumo's `MfConductor`) or microfacet glass (`MfDielectric`).
+pub enum Kind {
+    Metal,
+    Glass,
+}
+
+// Configurable parameters for a microsurface. Its spectra, the refraction index eta and the
+// absorption coefficient k, are lent beside it.
+pub struct Surface {
+    pub kind: Kind,
+    // Roughness of the surface (α) along x and y
+    pub roughness: Vec2,
+}
+
+// Whether the refraction index is the same at every wavelength.
+pub fn constant_eta(eta: &[f64]) -> bool
+    ensures { λ r. ⌜ r ≡ constantEta (now (eta .entry)) ⌝ }
+{
+    DenseSpectrum::is_constant(eta)
+}
+
+// The refraction index at one wavelength.
+pub fn eta_at(eta: &[f64], wl: f64) -> f64
+    ensures { λ r. ⌜ r ≡ etaAt (now (eta .entry)) wl ⌝ }
+{
+    DenseSpectrum::sample_one(eta, wl)
+}
+
+// The absorption coefficient at one wavelength.
+pub fn k_at(k: &[f64], wl: f64) -> f64
+    ensures { λ r. ⌜ r ≡ kAt (now (k .entry)) wl ⌝ }
+{
+    DenseSpectrum::sample_one(k, wl)
+}
+
+// The cosine or the sine of the azimuth, from the direction's part along x or y and the sine of its
+// polar angle.
+fn azimuth(part: f64, sin: f64, pole: f64) -> f64
+    ensures { λ r. ⌜ r ≡ azimuth part sin pole ⌝ }
+{
+    if sin == 0.0 {
+        return pole;
+    }
+    float::clamp(part / sin, -1.0, 1.0)
+}
+
+// Schlicks approximation for Fresnel term
+pub fn f_schlick(f0: f64, f90: f64, cos_theta: f64) -> f64
+    ensures { λ r. ⌜ r ≡ fSchlick f0 f90 «cos_theta» ⌝ }
+{
+    f0 + (f90 - f0) * float::powi5(1.0 - cos_theta)
+}
+
+impl Surface {
+    // Does the material have delta scattering distribution?
+    pub fn is_delta(self) -> bool
+        ensures { λ r. ⌜ r ≡ isDelta (self .roughness) ⌝ }
+    {
+        (self.roughness.x + self.roughness.y) / 2.0 < 1e-3
+    }
+
+    // Disney diffuse (Burley 2012) with renormalization to conserve energy
+    // as done in Frostbite (Lagarde et al. 2014)
+    pub fn disney_diffuse(self, cos_theta_wo: f64, cos_theta_wi: f64, cos_theta_wh: f64) -> f64
+        ensures { λ r. ⌜ r ≡ disneyDiffuse (self .roughness) «cos_theta_wo» «cos_theta_wi» «cos_theta_wh» ⌝ }
+    {
+        let roughness2 = self.roughness.x * self.roughness.x;
+        let energy_bias = 0.5 * roughness2;
+        let fd90 = energy_bias + 2.0 * (cos_theta_wh * cos_theta_wh) * roughness2;
+
+        let view_scatter = f_schlick(1.0, fd90, cos_theta_wo);
+        let light_scatter = f_schlick(1.0, fd90, cos_theta_wi);
+
+        let energy_factor = 1.0 + roughness2 * (1.0 / 1.51 - 1.0);
+
+        view_scatter * light_scatter * energy_factor
+    }
+
+    // The microfacet distribution function of GGX, at a microsurface normal in shading space.
+    pub fn d(self, wh: Vec3) -> f64
+        ensures { λ r. ⌜ r ≡ d (self .roughness) wh ⌝ }
+    {
+        let cos2_theta = wh.z * wh.z;
+        let sin2_theta = float::max(1.0 - cos2_theta, 0.0);
+        let tan2_theta = sin2_theta / cos2_theta;
+        if float::is_infinite(tan2_theta) {
+            return 0.0;
+        }
+        let cos4_theta = cos2_theta * cos2_theta;
+        if cos4_theta < EPSILON * EPSILON {
+            return 0.0;
+        }
+        let sin_theta = sqrt(sin2_theta);
+        let x = azimuth(wh.x, sin_theta, 1.0) / self.roughness.x;
+        let y = azimuth(wh.y, sin_theta, 0.0) / self.roughness.y;
+        let e = 1.0 + tan2_theta * (x * x + y * y);
+
+        1.0 / (PI * (self.roughness.x * self.roughness.y) * cos4_theta * (e * e))
+    }
+
+    // Lambda function used in the definition of the shadow-masking term, in PBR Chapter 8.4.3.
+    pub fn lambda(self, w: Vec3) -> f64
+        ensures { λ r. ⌜ r ≡ lambda (self .roughness) w ⌝ }
+    {
+        let cos2_theta = w.z * w.z;
+        let sin2_theta = float::max(1.0 - cos2_theta, 0.0);
+        let tan2_theta = sin2_theta / cos2_theta;
+        if float::is_infinite(tan2_theta) {
+            return 0.0;
+        }
+        let sin_theta = sqrt(sin2_theta);
+        let x = self.roughness.x * azimuth(w.x, sin_theta, 1.0);
+        let y = self.roughness.y * azimuth(w.y, sin_theta, 0.0);
+        let alpha2 = x * x + y * y;
+
+        (sqrt(float::max(1.0 + alpha2 * tan2_theta, 0.0)) - 1.0) / 2.0
+    }
+
+    // Shadow-masking term. Used to make sure that only microfacets that are visible from `wo`
+    // direction are considered. Uses the method described in Chapter 8.4.3 of PBR due to
+    // Heitz et al. 2013.
+    pub fn g(self, wo: Vec3, wi: Vec3, wh: Vec3) -> f64
+        ensures { λ r. ⌜ r ≡ g (self .roughness) wo wi wh ⌝ }
+    {
+        if chi_pass(wo, wh) {
+            return 1.0 / (1.0 + self.lambda(wo) + self.lambda(wi));
+        }
+        0.0
+    }
+
+    pub fn g1(self, wo: Vec3, wh: Vec3) -> f64
+        ensures { λ r. ⌜ r ≡ g1 (self .roughness) wo wh ⌝ }
+    {
+        if chi_pass(wo, wh) {
+            return 1.0 / (1.0 + self.lambda(wo));
+        }
+        0.0
+    }
+
+    // `g1` with `wo_dot_wh` at hand.
+    fn g1_at(self, wo_dot_wh: f64, wo: Vec3, wh: Vec3) -> f64
+        ensures { λ r. ⌜ r ≡ g1At (self .roughness) «wo_dot_wh» wo wh ⌝ }
+    {
+        if chi_pass_at(wo_dot_wh, wo, wh) {
+            return 1.0 / (1.0 + self.lambda(wo));
+        }
+        0.0
+    }
+
+    // `g` over `g1`, and 0 where `g1` is 0.
+    pub fn g_over_g1(self, wo: Vec3, wi: Vec3, wh: Vec3) -> f64
+        ensures { λ r. ⌜ r ≡ gOverG1 (self .roughness) wo wi wh ⌝ }
+    {
+        if chi_pass(wo, wh) {
+            let seen = 1.0 + self.lambda(wo);
+            let g1 = 1.0 / seen;
+            if g1 == 0.0 {
+                return 0.0;
+            }
+            return 1.0 / (seen + self.lambda(wi)) / g1;
+        }
+        0.0
+    }
+
+    // Probability that `wh` got sampled. `wh` and `wo` in shading space.
+    pub fn sample_normal_pdf(self, wh: Vec3, wo: Vec3) -> f64
+        ensures { λ r. ⌜ r ≡ sampleNormalPdf (self .roughness) wh wo ⌝ }
+    {
+        self.sample_normal_pdf_at(wo.dot(wh), wh, wo)
+    }
+
+    // `sample_normal_pdf` with `wo_dot_wh` at hand.
+    pub fn sample_normal_pdf_at(self, wo_dot_wh: f64, wh: Vec3, wo: Vec3) -> f64
+        ensures { λ r. ⌜ r ≡ sampleNormalPdfAt (self .roughness) «wo_dot_wh» wh wo ⌝ }
+    {
+        let g1 = self.g1_at(wo_dot_wh, wo, wh);
+        let d = self.d(wh);
+        float::max(g1 * d * float::abs(wo_dot_wh) / float::abs(wo.z), 0.0)
+    }
+
+    // `wo` in the hemisphere's configuration, on the side of the geometric normal.
+    fn viewed(self, wo: Vec3) -> Vec3
+        ensures { λ r. ⌜ r ≡ viewed (self .roughness) wo ⌝ }
+    {
+        let stretched = Vec3 {
+            x: wo.x * self.roughness.x,
+            y: wo.y * self.roughness.y,
+            z: wo.z,
+        }.normalize();
+        if stretched.z < 0.0 {
+            return stretched.negate();
+        }
+        stretched
+    }
+
+    // From the hemisphere's configuration back to the ellipsoid.
+    fn unstretched(self, wm: Vec3) -> Vec3
+        ensures { λ r. ⌜ r ≡ unstretched (self .roughness) wm ⌝ }
+    {
+        Vec3 {
+            x: self.roughness.x * wm.x,
+            y: self.roughness.y * wm.y,
+            z: float::max(wm.z, EPSILON),
+        }.normalize()
+    }
+
+    // Sampling microfacet normals (Heitz 2018) for importance sampling. `wo` in shading space;
+    // `disk` is the disk number, `c` and `s` the cosine and the sine of the disk's angle.
+    pub fn sample_normal(self, wo: Vec3, disk: f64, c: f64, s: f64) -> Vec3
+        ensures { λ r. ⌜ r ≡ sampleNormal (self .roughness) wo disk c s ⌝ }
+    {
+        // Map the GGX ellipsoid to a hemisphere
+        let v = self.viewed(wo);
+        let r = sqrt(disk);
+        // ONB basis of the hemisphere configuration
+        let u = tangent(v);
+        // compute normal in hemisphere configuration
+        let wm = on_hemisphere(v, r, c, s);
+        // move back to ellipsoid
+        self.unstretched(combined(u, v, wm))
+    }
+}
+
+// The first vector of the basis should be perpendicular to Z.
+fn tangent(v: Vec3) -> Vec3
+    ensures { λ r. ⌜ r ≡ tangent v ⌝ }
+{
+    if 1.0 - v.z < EPSILON {
+        return Vec3::X;
+    }
+    v.cross(Vec3::Z).normalize()
+}
+
+fn on_hemisphere(v: Vec3, r: f64, c: f64, s: f64) -> Vec3
+    ensures { λ p. ⌜ p ≡ onHemisphere v r c s ⌝ }
+{
+    // first a point on the unit disk
+    let x = r * c;
+    // then map it to the projection disk
+    let rest = 1.0 - x * x;
+    let h = sqrt(float::max(rest, 0.0));
+    let lerp = (1.0 + v.z) / 2.0;
+    let y = (1.0 - lerp) * h + lerp * r * s;
+
+    Vec3 {
+        x: x,
+        y: y,
+        z: sqrt(float::max(rest - y * y, 0.0)),
+    }
+}
+
+fn combined(u: Vec3, v: Vec3, wm: Vec3) -> Vec3
+    ensures { λ r. ⌜ r ≡ combined u v wm ⌝ }
+{
+    let x = Vec3::float_mul(wm.x, u);
+    let y = Vec3::float_mul(wm.y, u.cross(v));
+    let z = Vec3::float_mul(wm.z, v);
+    x.add(y).add(z)
+}
+
+pub fn chi_pass(wo: Vec3, wh: Vec3) -> bool
+    ensures { λ r. ⌜ r ≡ chiPass wo wh ⌝ }
+{
+    chi_pass_at(wo.dot(wh), wo, wh)
+}
+
+// `chi_pass` with `wo_dot_wh` at hand.
+fn chi_pass_at(wo_dot_wh: f64, wo: Vec3, wh: Vec3) -> bool
+    ensures { λ r. ⌜ r ≡ chiPassAt «wo_dot_wh» wo wh ⌝ }
+{
+    // signum to fix refraction
+    let chi = float::signum(wh.z) * wo_dot_wh * wo.z;
+    chi > EPSILON
+}
+
+// Fresnel term with the full equations, at four wavelengths
+pub fn f(eta: &[f64], k: &[f64], wo: Vec3, wh: Vec3, lambda: Color) -> Color
+    ensures { λ r. ⌜ r ≡ f (now (eta .entry)) (now (k .entry)) wo wh lambda ⌝ }
+{
+    let cos_o = wo.dot(wh);
+    Color {
+        s0: fresnel_at(eta, k, cos_o, lambda.s0),
+        s1: fresnel_at(eta, k, cos_o, lambda.s1),
+        s2: fresnel_at(eta, k, cos_o, lambda.s2),
+        s3: fresnel_at(eta, k, cos_o, lambda.s3),
+    }
+}
+
+fn fresnel_at(eta: &[f64], k: &[f64], cos_o: f64, wl: f64) -> f64
+    ensures { λ r. ⌜ r ≡ fresnel «cos_o» (etaAt (now (eta .entry)) wl) (kAt (now (k .entry)) wl) ⌝ }
+{
+    fresnel(cos_o, eta_at(eta, wl), k_at(k, wl))
+}
+
+// Fresnel term with the full equations, at one wavelength, whose index is `eta` and absorption `k`.
+pub fn f_at(wo: Vec3, wh: Vec3, eta: f64, k: f64) -> f64
+    ensures { λ r. ⌜ r ≡ fAt wo wh eta k ⌝ }
+{
+    fresnel(wo.dot(wh), eta, k)
+}
+
+// `f_at` with `cos_o`, which is `wo.dot(wh)`, at hand.
+pub fn fresnel(cos_o: f64, eta: f64, k: f64) -> f64
+    ensures { λ r. ⌜ r ≡ fresnel «cos_o» eta k ⌝ }
+{
+    if k == 0.0 {
+        if eta == 0.0 {
+            return 0.0;
+        }
+        return fr_real(cos_o, eta);
+    }
+    fr_complex(cos_o, eta, k)
+}
+
+pub fn fr_complex(cos_o: f64, eta: f64, k: f64) -> f64
+    ensures { λ r. ⌜ r ≡ frComplex «cos_o» eta k ⌝ }
+{
+    // this is a complex number: n + ik
+    fr_complex_facing(float::clamp(cos_o, 0.0, 1.0), Complex { Re: eta, Im: k })
+}
+
+fn fr_complex_facing(cos_o: f64, eta: Complex) -> f64
+    ensures { λ r. ⌜ r ≡ frComplexFacing «cos_o» eta ⌝ }
+{
+    let cos_i = complex_cos_i(cos_o, eta);
+    let r_par = r_par(cos_o, eta, cos_i);
+    let r_per = r_per(cos_o, eta, cos_i);
+
+    (r_par.norm_sqr() + r_per.norm_sqr()) / 2.0
+}
+
+fn complex_cos_i(cos_o: f64, eta: Complex) -> Complex
+    ensures { λ r. ⌜ r ≡ complexCosI «cos_o» eta ⌝ }
+{
+    let sin2_o = 1.0 - cos_o * cos_o;
+    let sin2_i = Complex::float_div(sin2_o, eta.mul(eta));
+    Complex::float_sub(1.0, sin2_i).sqrt()
+}
+
+fn r_par(cos_o: f64, eta: Complex, cos_i: Complex) -> Complex
+    ensures { λ r. ⌜ r ≡ rPar «cos_o» eta «cos_i» ⌝ }
+{
+    let o = eta.mul_float(cos_o);
+    o.sub(cos_i).div(o.add(cos_i))
+}
+
+fn r_per(cos_o: f64, eta: Complex, cos_i: Complex) -> Complex
+    ensures { λ r. ⌜ r ≡ rPer «cos_o» eta «cos_i» ⌝ }
+{
+    let i = eta.mul(cos_i);
+    Complex::float_sub(cos_o, i).div(Complex::float_add(cos_o, i))
+}
+
+pub fn fr_real(cos_o: f64, eta: f64) -> f64
+    ensures { λ r. ⌜ r ≡ frReal «cos_o» eta ⌝ }
+{
+    if cos_o < 0.0 {
+        return fr_facing(float::abs(cos_o), 1.0 / eta);
+    }
+    fr_facing(float::abs(cos_o), eta)
+}
+
+// At a cosine that isn't below 0, against the index on its side.
+fn fr_facing(cos_o: f64, eta: f64) -> f64
+    ensures { λ r. ⌜ r ≡ frFacing «cos_o» eta ⌝ }
+{
+    let sin2_i = (1.0 - cos_o * cos_o) / (eta * eta);
+
+    // total internal reflection
+    if sin2_i >= 1.0 {
+        return 1.0;
+    }
+
+    let cos_i = sqrt(float::max(1.0 - sin2_i, 0.0));
+    let o = eta * cos_o;
+    let i = eta * cos_i;
+
+    let r_par = (o - cos_i) / (o + cos_i);
+    let r_per = (cos_o - i) / (cos_o + i);
+
+    (r_par * r_par + r_per * r_per) / 2.0
+}
