@@ -1,0 +1,7 @@
+-- The laws, in the order in which they build on each other.
+pub mod Direction
+pub mod Checks
+pub mod Weights
+pub mod Sampled
+pub mod Demand3
+pub mod Samples

@@ -1,0 +1,369 @@
+-- Every starred sample of document 01, one conjunction (`all-samples` proves `AllSamples` of specs/Samples.antt).
+-- Those of whole bounces go by stages. Each leaf (local wo, a reading of a spectrum, a mirrored or a bent direction, F, a density) is
+-- computed from its definition; a stage puts leaves together by `rw`, for any roughness and spectra that are delta and read so.
+use Prim.Native.Nat.{ℕ, zero, suc}
+use mathlib.Core.Path.{_≡_, refl}
+use mathlib.Core.Bool.{Bool, true, false, _||_}
+use mathlib.Core.List.{List}
+use lib.IntN.{pos}
+use lib.ListN.{replicate}
+use lib.Ieee.{Float, fin, binary64, add, sub, mul, div, neg, lt, le, eq, isNan, ofInt, toUnsigned}
+use Rattle.numbers.specs.Float.{f0, f1, f2, f-1, decimal, epsilon, within, max, signum, isFinite}
+use Rattle.numbers.specs.SquareRoot.{squareRoot}
+use Rattle.numbers.specs.Vec2.{splat}
+use Rattle.numbers.specs.Vec3.{vec3, Z, dot, floatMul, divFloat, mulFloat, negate, lengthSquared, length, normalize, projectOnto, isDirection}
+use Rattle.numbers.specs.Vec3 as V3
+use Rattle.numbers.specs.Onb.{slope, skew, basis, toLocal, toWorld}
+use Rattle.numbers.specs.SphericalUtils.{cosTheta, sameHemisphere}
+use Rattle.numbers.specs.DenseSpectrum.{ceiling, upperPoint, upperLambda, upperWeight, interpolate, sampleOneAt, sampleOne, every, isConstant, allWithin, isWavelength, isLookupWavelength}
+use Rattle.numbers.specs.declared.vec2.Vec2.{Vec2}
+use Rattle.numbers.specs.declared.vec3.Vec3.{Vec3}
+use Rattle.numbers.proofs.Samples as Numbers
+use Rattle.optics.specs.Surface.{Microsurface, roughnessMin, isRoughness, roughnessHolds, isSpectrum, etaMin, etaMax, etaHolds, kMin, kMax, allZero, kEntriesHold, kHolds, etaAt, kAt, constantEta, surface}
+use Rattle.optics.specs.Facets.{half, isDelta}
+use Rattle.optics.specs.Fresnel.{sin2I, isTotal, cosI, fresnel, fAt}
+use Rattle.optics.specs.Bxdf.{scattered, direction, mirrored, reflect, bent, acrossOnly, refractFacing, refract, branch, conductorNormal, conductorFrom, isSmooth, dielectricNormal, rest, reflects, dielectricFrom}
+use Rattle.optics.specs.Density.{onZSide, atZ, conductorHalf, conductorPdf, etaRatio, dielectricHalf, isDiscarded, reflectedPdf, passedPdf, dielectricAt, dielectricPdf, pdfOf, pdf}
+use Rattle.optics.specs.Checked.{accepted, refuse, checkSurface, checkDirection, isRandom, checkRandom, isCirclePair, checkCirclePair}
+use Rattle.optics.specs.Samples.{quarter, three-quarters}
+use Rattle.optics.specs.declared.microfacet.Kind.the-variants.{Metal, Glass}
+use Rattle.optics.proofs.Samples as Optics
+use Rattle.path.specs.declared.records.Density.the-variants as D
+use Rattle.path.specs.declared.records.Shares.the-variants as S
+use Rattle.path.specs.Path.{path, leading, isPathLambda, isPower, isFilter, weighed}
+use Rattle.path.specs.Bounce.{advanced, _then_, checkBounce, leftOnGlass, leftOn, lambdaOn, localWo, leadingEta, facetOf, facet, fresnelAt, share, scatterOn, scatter, oneDirection, shadowing, metalShare, filtered, weightFrom, weights}
+use Rattle.path.specs.Answer.{reflected, passed, densityOf, density, sharesOn, shares, branchOf, worked, onSurface, answered, bounce}
+use Rattle.path.specs.Samples.{all, grid, constant, deltaMetal, deltaGlass, along, Samples, AllSamples}
+
+-- ---- local wo is Z
+local : (u : Float) → localWo (along u) ≡ Z
+unfolding localWo toLocal basis slope skew signum dot add sub mul div neg
+local u = refl
+
+-- ---- the grid's wavelengths, and a constant spectrum there
+abbrev l0 : Float
+l0 = grid .s0
+
+abbrev l1 : Float
+l1 = grid .s1
+
+abbrev l2 : Float
+l2 = grid .s2
+
+abbrev l3 : Float
+l3 = grid .s3
+
+-- a spectrum reads x at each of them
+record Reads (values : List Float) (x : Float) : Type 0 where
+  r0 : sampleOne values l0 ≡ x
+  r1 : sampleOne values l1 ≡ x
+  r2 : sampleOne values l2 ≡ x
+  r3 : sampleOne values l3 ≡ x
+
+reads : (x : Float) → Reads (constant x) x
+unfolding sampleOne sampleOneAt upperPoint upperLambda upperWeight ceiling interpolate add sub mul div lt eq ofInt toUnsigned
+reads x = record { r0 = refl; r1 = refl; r2 = refl; r3 = refl }
+
+-- ---- the checks
+every-replicate : (p : Float → Bool) (x : Float) → p x ≡ true → (n : ℕ) → every p (replicate n x) ≡ true
+unfolding every
+every-replicate p x h zero = refl
+every-replicate p x h (suc n) = rw (h, every-replicate p x h n)
+
+or-true : (b : Bool) → (b || true) ≡ true
+or-true true = refl
+or-true false = refl
+
+-- roughness 0, raised to 1e-5
+abbrev smooth : Vec2
+smooth = splat (max f0 roughnessMin)
+
+smooth-holds : roughnessHolds smooth ≡ true
+unfolding roughnessHolds isRoughness splat max roughnessMin decimal within isNan lt le
+smooth-holds = refl
+
+smooth-delta : isDelta smooth ≡ true
+unfolding isDelta splat max roughnessMin decimal isNan lt add div
+smooth-delta = refl
+
+length-holds : (x : Float) → isSpectrum (constant x) ≡ true
+unfolding isSpectrum
+length-holds x = refl
+
+eta-holds : (x : Float) → within etaMin etaMax x ≡ true → etaHolds (constant x) ≡ true
+unfolding etaHolds allWithin
+eta-holds x h = rw (length-holds x, every-replicate (within etaMin etaMax) x h 95)
+
+metal-k-holds : kHolds Metal (constant f2) ≡ true
+unfolding kHolds kEntriesHold allWithin within kMin decimal le
+metal-k-holds = rw (length-holds f2, every-replicate (within kMin kMax) f2 refl 95, or-true)
+
+glass-k-holds : kHolds Glass (constant f0) ≡ true
+unfolding kHolds kEntriesHold allZero allWithin within le
+glass-k-holds = rw (length-holds f0, every-replicate (within f0 f0) f0 refl 95)
+
+surface-holds :
+    (m : Microsurface) → roughnessHolds (m .roughness) ≡ true → etaHolds (m .eta) ≡ true → kHolds (m .kind) (m .k) ≡ true →
+    checkSurface m ≡ accepted
+unfolding checkSurface
+surface-holds m r e k = rw (r, e, k)
+
+disk-holds : isRandom f0 ≡ true
+unfolding isRandom lt le
+disk-holds = refl
+
+-- the rest of them, for powers x and the number u
+checks :
+    (m : Microsurface) (x u : Float) → checkSurface m ≡ accepted → isPower x ≡ true → isRandom u ≡ true →
+    checkBounce (path grid (all x)) m (along u) ≡ accepted
+unfolding checkBounce _then_ refuse isPathLambda isWavelength isLookupWavelength isFilter checkDirection isDirection lengthSquared dot checkRandom checkCirclePair isCirclePair decimal within add mul lt le eq
+checks m x u s p r = rw (s, p, r, disk-holds)
+
+-- ---- metal
+abbrev metal : Vec2 → List Float → List Float → Microsurface
+metal a eta k = record { kind = Metal; roughness = a; eta = eta; k = k }
+
+-- mirrored about Z, local
+abbrev Z' : Vec3
+Z' = vec3 (fin true 0 (pos 0)) (fin true 0 (pos 0)) f1
+
+-- back in the world
+world-Z' : toWorld (basis Z) Z' ≡ Z
+unfolding toWorld basis slope skew signum V3.add floatMul add sub mul div neg
+world-Z' = refl
+
+metal-weight-half : mul binary64 (mul binary64 f1 (metalShare half)) f1 ≡ half
+unfolding metalShare isNan le mul
+metal-weight-half = refl
+
+metal-density : (a : Vec2) → isDelta a ≡ true → conductorPdf a Z Z' ≡ f1
+unfolding conductorPdf sameHemisphere cosTheta conductorHalf onZSide atZ normalize length lengthSquared dot divFloat negate V3.add epsilon decimal max isNan squareRoot add sub mul div neg lt
+metal-density a h = rw h
+
+module _ (a : Vec2) (eta k : List Float) (delta : isDelta a ≡ true) (eta-1 : Reads eta f1) (k-2 : Reads k f2) where
+  metal-facet : (u : Float) → facet (metal a eta k) grid (along u) ≡ Z
+  unfolding facet facetOf conductorNormal
+  metal-facet u = rw delta
+
+  metal-fresnel : (u l : Float) → etaAt eta l ≡ f1 → kAt k l ≡ f2 → fresnelAt (metal a eta k) grid (along u) l ≡ half
+  unfolding fresnelAt
+  metal-fresnel u l p q = rw (local u, metal-facet u, p, q, Optics.samples .f-at-complex)
+
+  metal-scatter : (u : Float) → scatter (metal a eta k) grid (along u) ≡ scattered Z' true
+  unfolding scatter scatterOn conductorFrom neg
+  metal-scatter u = rw (local u, delta)
+
+  metal-shadowing : (u : Float) (wi : Vec3) → shadowing (metal a eta k) grid (along u) wi ≡ f1
+  unfolding shadowing oneDirection
+  metal-shadowing u wi = rw delta
+
+  metal-weight :
+      (u l : Float) → eq l f0 ≡ false → etaAt eta l ≡ f1 → kAt k l ≡ f2 →
+      weightFrom (scattered Z' true) (metal a eta k) grid (along u) l f1 f1 ≡ half
+  unfolding weightFrom filtered
+  metal-weight u l z p q = rw (z, metal-fresnel u l p q, metal-shadowing u Z', metal-weight-half)
+
+  metal-weights : (u : Float) → weights (metal a eta k) grid (along u) ≡ all half
+  unfolding weights etaAt kAt eq
+  metal-weights u =
+      rw (
+        metal-scatter u,
+        metal-weight u l0 refl (eta-1 .r0) (k-2 .r0),
+        metal-weight u l1 refl (eta-1 .r1) (k-2 .r1),
+        metal-weight u l2 refl (eta-1 .r2) (k-2 .r2),
+        metal-weight u l3 refl (eta-1 .r3) (k-2 .r3),
+      )
+
+  metal-bounce :
+      (x y u : Float) → checkBounce (path grid (all x)) (metal a eta k) (along u) ≡ accepted → mul binary64 x half ≡ y →
+      bounce (path grid (all x)) (metal a eta k) (along u) ≡ reflected Z (D.Finite f1) S.None (path grid (all y))
+  unfolding bounce answered onSurface worked branchOf advanced lambdaOn leftOn weighed density densityOf isFinite pdf pdfOf shares sharesOn
+  metal-bounce x y u ok p = rw (ok, metal-scatter u, metal-weights u, local u, world-Z', metal-density a delta, p)
+
+-- ---- glass
+abbrev glass : Vec2 → List Float → List Float → Microsurface
+glass a eta k = record { kind = Glass; roughness = a; eta = eta; k = k }
+
+abbrev f3 : Float
+f3 = fin false 3 (pos 0)
+
+-- F at cosine 1
+fresnel-3 : fresnel f1 f3 f0 ≡ quarter
+unfolding fAt dot decimal add mul
+fresnel-3 = Optics.samples .f-at-real
+
+-- the rest, and the test of the sampler
+rest-quarter : rest quarter ≡ three-quarters
+unfolding rest sub
+rest-quarter = refl
+
+reflects-below : reflects (decimal 2 10) quarter ≡ true
+unfolding reflects rest decimal add sub div lt
+reflects-below = refl
+
+passes-at : reflects quarter quarter ≡ false
+unfolding reflects rest add sub div lt
+passes-at = refl
+
+-- mirrored about Z
+reflect-Z : reflect Z Z ≡ direction Z
+unfolding reflect mirrored projectOnto lengthSquared dot floatMul mulFloat divFloat V3.sub sameHemisphere cosTheta add sub mul div neg lt
+reflect-Z = refl
+
+world-Z : toWorld (basis Z) Z ≡ Z
+unfolding toWorld basis slope skew signum V3.add floatMul add sub mul div neg
+world-Z = refl
+
+-- bent about Z, local, and back in the world
+abbrev -Z : Vec3
+-Z = vec3 (fin true 0 (pos 0)) (fin true 0 (pos 0)) f-1
+
+refract-Z : refract f3 Z Z ≡ direction -Z
+unfolding refract refractFacing sin2I isTotal cosI acrossOnly bent dot floatMul divFloat negate V3.add sameHemisphere cosTheta max isNan squareRoot add sub mul div neg lt le
+refract-Z = refl
+
+world--Z : toWorld (basis Z) -Z ≡ vec3 f0 f0 f-1
+unfolding toWorld basis slope skew signum V3.add floatMul add sub mul div neg
+world--Z = refl
+
+module _ (a : Vec2) (delta : isDelta a ≡ true) where
+  smooth-3 : isSmooth a f3 ≡ true
+  unfolding isSmooth eq
+  smooth-3 = delta
+
+  reflected-density : dielectricPdf a f3 f0 true Z Z ≡ quarter
+  unfolding dielectricPdf etaRatio dielectricHalf onZSide dielectricAt isDiscarded reflectedPdf atZ rest fAt normalize length lengthSquared dot divFloat mulFloat negate V3.add cosTheta epsilon decimal max isNan squareRoot add sub mul div neg lt eq
+  reflected-density = rw (fresnel-3, smooth-3)
+
+  passed-density : dielectricPdf a f3 f0 false Z -Z ≡ three-quarters
+  unfolding dielectricPdf etaRatio dielectricHalf onZSide dielectricAt isDiscarded passedPdf atZ rest fAt normalize length lengthSquared dot divFloat mulFloat negate V3.add cosTheta epsilon decimal max isNan squareRoot add sub mul div neg lt eq
+  passed-density = rw (fresnel-3, smooth-3)
+
+module _ (a : Vec2) (eta k : List Float) (delta : isDelta a ≡ true) (same : constantEta eta ≡ true) (eta-3 : Reads eta f3) (k-0 : Reads k f0) where
+  glass-lambda : lambdaOn (glass a eta k) grid ≡ grid
+  unfolding lambdaOn leftOn leftOnGlass
+  glass-lambda = rw same
+
+  glass-eta : leadingEta (glass a eta k) grid ≡ f3
+  unfolding leadingEta leading etaAt
+  glass-eta = eta-3 .r0
+
+  glass-facet : (u : Float) → facet (glass a eta k) grid (along u) ≡ Z
+  unfolding facet facetOf dielectricNormal
+  glass-facet u = rw (glass-eta, smooth-3 a delta)
+
+  glass-share : (u : Float) → share (glass a eta k) grid (along u) ≡ quarter
+  unfolding share fresnelAt leading etaAt kAt fAt dot add mul
+  glass-share u = rw (local u, glass-facet u, eta-3 .r0, k-0 .r0, fresnel-3)
+
+  glass-reflects : scatter (glass a eta k) grid (along (decimal 2 10)) ≡ scattered Z true
+  unfolding scatter scatterOn dielectricFrom branch
+  glass-reflects =
+      let u = decimal 2 10 in
+      rw (glass-share u, reflects-below, local u, glass-facet u, reflect-Z)
+
+  glass-passes : scatter (glass a eta k) grid (along quarter) ≡ scattered -Z false
+  unfolding scatter scatterOn dielectricFrom branch
+  glass-passes = rw (glass-share quarter, passes-at, glass-eta, local quarter, glass-facet quarter, refract-Z)
+
+  glass-shadowing : (u : Float) (wi : Vec3) → shadowing (glass a eta k) grid (along u) wi ≡ f1
+  unfolding shadowing oneDirection
+  glass-shadowing u wi = rw (glass-eta, smooth-3 a delta)
+
+  glass-weight :
+      (u l : Float) (wi : Vec3) (r : Bool) → eq l f0 ≡ false →
+      weightFrom (scattered wi r) (glass a eta k) grid (along u) l f1 f1 ≡ f1
+  unfolding weightFrom filtered mul
+  glass-weight u l wi true z = rw (z, glass-shadowing u wi)
+  glass-weight u l wi false z = rw (z, glass-shadowing u wi)
+
+  glass-weights :
+      (u : Float) (wi : Vec3) (r : Bool) → scatter (glass a eta k) grid (along u) ≡ scattered wi r →
+      weights (glass a eta k) grid (along u) ≡ all f1
+  unfolding weights eq
+  glass-weights u wi r s =
+      rw (
+        s,
+        glass-weight u l0 wi r refl,
+        glass-weight u l1 wi r refl,
+        glass-weight u l2 wi r refl,
+        glass-weight u l3 wi r refl,
+      )
+
+  glass-bounce :
+      (u d : Float) (wi w : Vec3) (r : Bool) → checkBounce (path grid (all f1)) (glass a eta k) (along u) ≡ accepted →
+      scatter (glass a eta k) grid (along u) ≡ scattered wi r → toWorld (basis Z) wi ≡ w →
+      dielectricPdf a f3 f0 r Z wi ≡ d → isFinite d ≡ true →
+      bounce (path grid (all f1)) (glass a eta k) (along u) ≡
+      branchOf r w (D.Finite d) (S.Of quarter three-quarters) (path grid (all f1))
+  unfolding bounce answered onSurface worked advanced weighed density densityOf pdf pdfOf leading etaAt kAt shares sharesOn mul
+  glass-bounce u d wi w r ok s t p f =
+      rw (
+        ok,
+        glass-lambda,
+        s,
+        glass-weights u wi r s,
+        glass-share u,
+        rest-quarter,
+        local u,
+        t,
+        eta-3 .r0,
+        k-0 .r0,
+        p,
+        f,
+      )
+
+-- ---- the samples
+metal-accepted : (x : Float) → isPower x ≡ true → checkBounce (path grid (all x)) deltaMetal (along f0) ≡ accepted
+unfolding surface within etaMin decimal le
+metal-accepted x p =
+    checks deltaMetal x f0
+    (surface-holds deltaMetal smooth-holds (eta-holds f1 refl) metal-k-holds) p disk-holds
+
+glass-accepted : (u : Float) → isRandom u ≡ true → checkBounce (path grid (all f1)) deltaGlass (along u) ≡ accepted
+unfolding surface within etaMin decimal isPower le
+glass-accepted u r =
+    checks deltaGlass f1 u
+    (surface-holds deltaGlass smooth-holds (eta-holds f3 refl) glass-k-holds) refl r
+
+glass-constant : constantEta (constant f3) ≡ true
+unfolding constantEta isConstant eq
+glass-constant = every-replicate (eq f3) f3 refl 95
+
+once : bounce (path grid (all f1)) deltaMetal (along f0) ≡ reflected Z (D.Finite f1) S.None (path grid (all half))
+unfolding surface isPower within le mul
+once =
+    metal-bounce smooth (constant f1) (constant f2) smooth-delta (reads f1) (reads f2)
+    f1 half f0 (metal-accepted f1 refl) refl
+
+again : bounce (path grid (all half)) deltaMetal (along f0) ≡ reflected Z (D.Finite f1) S.None (path grid (all quarter))
+unfolding surface isPower within le mul
+again =
+    metal-bounce smooth (constant f1) (constant f2) smooth-delta (reads f1) (reads f2)
+    half quarter f0 (metal-accepted half refl) refl
+
+abbrev u0 : Float
+u0 = decimal 2 10
+
+reflects-u0 : bounce (path grid (all f1)) deltaGlass (along u0) ≡ reflected Z (D.Finite quarter) (S.Of quarter three-quarters) (path grid (all f1))
+unfolding surface branchOf isFinite isRandom decimal lt le
+reflects-u0 =
+    glass-bounce smooth (constant f3) (constant f0) smooth-delta glass-constant (reads f3) (reads f0)
+    u0 quarter Z Z true (glass-accepted u0 refl)
+    (glass-reflects smooth (constant f3) (constant f0) smooth-delta glass-constant (reads f3) (reads f0))
+    world-Z (reflected-density smooth smooth-delta) refl
+
+passes-quarter : bounce (path grid (all f1)) deltaGlass (along quarter) ≡ passed (vec3 f0 f0 f-1) (D.Finite three-quarters) (S.Of quarter three-quarters) (path grid (all f1))
+unfolding surface branchOf isFinite isRandom lt le
+passes-quarter =
+    glass-bounce smooth (constant f3) (constant f0) smooth-delta glass-constant (reads f3) (reads f0)
+    quarter three-quarters -Z (vec3 f0 f0 f-1) false (glass-accepted quarter refl)
+    (glass-passes smooth (constant f3) (constant f0) smooth-delta glass-constant (reads f3) (reads f0))
+    world--Z (passed-density smooth smooth-delta) refl
+
+bounces : Samples
+bounces = record { metal-once = once; metal-again = again; glass-reflects = reflects-u0; glass-passes = passes-quarter }
+
+-- every starred sample of document 01
+pub all-samples : AllSamples
+all-samples = (Numbers.samples, Optics.samples, bounces)

@@ -1,0 +1,89 @@
+-- A weight is a number from 0 to 1 (`Weight`), and a power times a weight is a number from 0 to what the power was (`weighed-down`).
+-- Each weight of a bounce is one (`weight-from`), where the shadowing q is one: products of weights are weights, F is a NaN or not below 0, and the metal's share of it is cut to 1.
+use mathlib.Core.Path.{_≡_, refl, sym, subst}
+use mathlib.Core.Bool.{Bool, true, false, cond}
+use lib.Dec.{T}
+use lib.Ieee.{Float, binary64, fits, isNan, le, eq}
+use lib.Ieee.Fits.{mul-fits}
+use lib.Ieee.Scale.{finite}
+use Rattle.numbers.specs.Float.{_⊗_, f0, f1}
+use Rattle.numbers.specs.DenseSpectrum.{terminated}
+use Rattle.numbers.specs.declared.vec3.Vec3.{Vec3}
+use Rattle.numbers.proofs.Units.{is-finite}
+use Rattle.numbers.proofs.NonNegative.{share-of}
+use Rattle.numbers.proofs.Shares.{weight}
+use Rattle.numbers.proofs.Monotone.{le-trans-fits}
+use Rattle.optics.specs.Surface.{Microsurface, etaAt, kAt}
+use Rattle.optics.specs.Bxdf.{Scattered, scattered, lost, totally}
+use Rattle.optics.specs.declared.color.Color.{Color}
+use Rattle.optics.specs.declared.microfacet.Kind.{Kind}
+use Rattle.optics.specs.declared.microfacet.Kind.the-variants.{Metal, Glass}
+use Rattle.optics.proofs.Glass.{share-fits}
+use Rattle.optics.proofs.FresnelSign.{fresnel-not-below}
+use Rattle.optics.proofs.Signs.{NotNegative, at-most-one}
+use Rattle.path.specs.declared.records.Bounce.{Bounce}
+use Rattle.path.specs.Bounce.{localWo, facet, fresnelAt, shadowing, metalShare, filtered, weightFrom}
+
+pub record Weight (x : Float) : Type 0 where
+  pub fits-x : T (fits binary64 x)
+  pub low : T (le f0 x)
+  pub high : T (le x f1)
+
+pub none : Weight f0
+unfolding fits le
+none = record { fits-x = tt; low = tt; high = tt }
+
+pub whole : Weight f1
+unfolding fits le
+whole = record { fits-x = tt; low = tt; high = tt }
+
+finite-of : (x : Float) → Weight x → T (finite x)
+finite-of x w = let s = share-of x (w .fits-x) (w .low) (w .high) in is-finite x (s .1 .0) (s .0) (s .1 .1)
+
+-- ---- a product
+pub weighed-down : (p w : Float) → Weight p → Weight w → Weight (p ⊗ w) × T (le (p ⊗ w) p)
+weighed-down p w a b =
+    let h = weight p w (a .fits-x) (b .fits-x) (a .low) (finite-of p a) (b .low) (b .high) in
+    let f = mul-fits binary64 p w in
+    (record { fits-x = f; low = h .1; high = le-trans-fits (p ⊗ w) p f1 f (a .fits-x) (whole .fits-x) (h .2) (a .high) }, h .2)
+
+times : (p w : Float) → Weight p → Weight w → Weight (p ⊗ w)
+times p w a b = weighed-down p w a b .0
+
+-- ---- the metal's share of F, which may be NaN or above 1
+metal-share : (F : Float) → T (fits binary64 F) → NotNegative F → Weight (metalShare F)
+unfolding metalShare
+metal-share F f h = go (isNan F) (le F f1) refl
+  where
+    go : (n l : Bool) → le F f1 ≡ l → Weight (cond n f0 (cond l F f1))
+    go true l e = none
+    go false false e = whole
+    go false true e = let s = at-most-one F h (subst T (sym e) tt) in record { fits-x = f; low = s .1; high = s .2 }
+
+-- ---- the weight of a wavelength
+filtered-weight : (kind : Kind) (reflection : Bool) (F q ks tf : Float) → T (fits binary64 F) → NotNegative F → Weight q → Weight ks → Weight tf
+    → Weight (filtered kind reflection F q ks tf)
+unfolding filtered
+filtered-weight Metal reflection F q ks tf f n a b c = times (ks ⊗ metalShare F) q (times ks (metalShare F) b (metal-share F f n)) a
+filtered-weight Glass true F q ks tf f n a b c = times ks q b a
+filtered-weight Glass false F q ks tf f n a b c = times tf q c a
+
+pub weight-from : (s : Scattered) (m : Microsurface) (lambda : Color) (b : Bounce) (wavelength ks tf : Float)
+    → ((wi : Vec3) (reflection : Bool) → s ≡ scattered wi reflection → Weight (shadowing m lambda b wi))
+    → Weight ks → Weight tf
+    → Weight (weightFrom s m lambda b wavelength ks tf)
+unfolding weightFrom fresnelAt
+weight-from lost m lambda b wavelength ks tf q x y = none
+weight-from totally m lambda b wavelength ks tf q x y = none
+weight-from (scattered wi reflection) m lambda b wavelength ks tf q x y = go (eq wavelength terminated)
+  where
+    eta : Float
+    eta = etaAt (m .eta) wavelength
+
+    k : Float
+    k = kAt (m .k) wavelength
+
+    go : (z : Bool) → Weight (cond z f0 (filtered (m .kind) reflection (fresnelAt m lambda b wavelength) (shadowing m lambda b wi) ks tf))
+    go true = none
+    go false = filtered-weight (m .kind) reflection (fresnelAt m lambda b wavelength) (shadowing m lambda b wi) ks tf
+        (share-fits (localWo b) (facet m lambda b) eta k) (fresnel-not-below (localWo b) (facet m lambda b) eta k) (q wi reflection refl) x y

@@ -1,0 +1,23 @@
+-- `path::bsdf::left_on_glass` meets its contract: the calls give what their contracts promise, and the definition is read in the same order.
+use borrow.Author.Needs.{needs}
+use Rattle.path.specs.Bounce.{leftOnGlass}
+use Rattle.path.proofs.bsdf.left_on_glass.Statement.{statement}
+use Rattle.path.proofs.bsdf.left_on_glass.Tie as tie
+
+constant-eta-requires : tie.Need-constant-eta-requires
+constant-eta-requires c κs = search needs
+
+returns : tie.Need-returns
+unfolding leftOnGlass
+returns c = rw (← c .before .constant-eta .ensures, c .if1 .taken)
+
+terminate-requires : tie.Need-terminate-requires
+terminate-requires c κs = search needs
+
+returns-2 : tie.Need-returns-2
+unfolding leftOnGlass
+returns-2 c = rw (← c .before .before .constant-eta .ensures, c .before .if1 .left, ← c .terminate .ensures)
+
+pub left-on-glass-spec : {M : Type 1} → statement M
+left-on-glass-spec =
+    tie.close (tie.spec constant-eta-requires returns terminate-requires returns-2)

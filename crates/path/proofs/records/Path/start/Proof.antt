@@ -1,0 +1,23 @@
+-- `path::records::Path::start` meets its contract: the calls give what their contracts promise, and the definition is read in the same order.
+use lib.Ieee.{ofBits}
+use borrow.Author.Needs.{needs}
+use Rattle.numbers.specs.Refusal.{number}
+use Rattle.optics.specs.Checked.{refuse, _▷_}
+use Rattle.path.specs.Answer.{started}
+use Rattle.path.specs.Path.{start, ones}
+use Rattle.path.proofs.records.Path.start.Statement.{statement}
+use Rattle.path.proofs.records.Path.start.Tie as tie
+
+is-start-requires : tie.Need-is-start-requires
+is-start-requires c κs = search needs
+
+returns : tie.Need-returns
+unfolding start refuse _▷_ started number ones ofBits
+returns c = rw (← c .before .is-start .ensures, c .if1 .taken)
+
+returns-2 : tie.Need-returns-2
+unfolding start refuse _▷_ started number ones ofBits
+returns-2 c = rw (← c .before .is-start .ensures, c .if1 .left)
+
+pub start-spec : {M : Type 1} → statement M
+start-spec = tie.close (tie.spec is-start-requires returns returns-2)

@@ -1,0 +1,127 @@
+-- A bounce on metal or glass: its checks, what is sampled, and the weight of each wavelength (document 01, "Bounce"). Definitions only.
+-- `lambda` is the path's wavelengths that are left: on glass whose eta varies, two to four have ended.
+use Prim.Native.Nat.{ℕ}
+use mathlib.Core.Bool.{Bool, cond}
+use mathlib.Core.List.{List}
+use lib.Ieee.{Float, isNan, le, eq}
+use Rattle.numbers.specs.Float.{_⊗_, f0, f1}
+use Rattle.numbers.specs.Onb.{basis, toLocal}
+use Rattle.numbers.specs.DenseSpectrum.{terminated}
+use Rattle.numbers.specs.declared.vec3.Vec3.{Vec3}
+use Rattle.optics.specs.Color.{color}
+use Rattle.optics.specs.Surface.{Microsurface, etaAt, kAt, constantEta}
+use Rattle.optics.specs.Facets.{isDelta, gOverG1}
+use Rattle.optics.specs.Fresnel.{fAt}
+use Rattle.optics.specs.Bxdf.{Scattered, scattered, lost, totally, conductorNormal, conductorFrom, isSmooth, dielectricNormal, dielectricFrom}
+use Rattle.optics.specs.Checked.{Verdict, accepted, rejected, refuse, checkSurface, checkDirection, checkRandom, checkCirclePair}
+use Rattle.optics.specs.declared.color.Color.{Color}
+use Rattle.optics.specs.declared.microfacet.Kind.{Kind}
+use Rattle.optics.specs.declared.microfacet.Kind.the-variants.{Metal, Glass}
+use Rattle.path.specs.declared.records.Path.{Path}
+use Rattle.path.specs.declared.records.Bounce.{Bounce}
+use Rattle.path.specs.Path.{path, weighed, all4, leading, terminate, isPathLambda, isPower, isFilter}
+
+-- ---- the checks, in 01's order ("At the counter")
+-- a check, then the next
+infixr 25 _then_
+unfoldable pub _then_ : Verdict → Verdict → Verdict
+accepted then next = next
+rejected n then next = rejected n
+
+unfoldable pub checkBounce : Path → Microsurface → Bounce → Verdict
+checkBounce p m b =
+    checkSurface m
+    then refuse 4 (isPathLambda (p .lambda))
+    then refuse 10 (all4 isPower (p .power))
+    then checkDirection (b .wo)
+    then checkDirection (b .normal)
+    then checkRandom (b .u)
+    then checkRandom (b .disk)
+    then checkCirclePair (b .c) (b .s)
+    then refuse 8 (all4 isFilter (b .ks))
+    then refuse 8 (all4 isFilter (b .tf))
+
+-- ---- wavelengths two to four end on glass whose eta isn't constant
+unfoldable pub leftOnGlass : List Float → Color → Color
+leftOnGlass eta lambda = cond (constantEta eta) lambda (terminate lambda)
+
+unfoldable pub leftOn : Kind → List Float → Color → Color
+leftOn Metal eta lambda = lambda
+leftOn Glass eta lambda = leftOnGlass eta lambda
+
+unfoldable pub lambdaOn : Microsurface → Color → Color
+lambdaOn m lambda = leftOn (m .kind) (m .eta) lambda
+
+-- ---- what is sampled (lumo's `BSDF::sample`): wo in the basis of the normal, the facet's normal, F at the leading wavelength
+unfoldable pub localWo : Bounce → Vec3
+localWo b = toLocal (basis (b .normal)) (b .wo)
+
+unfoldable pub leadingEta : Microsurface → Color → Float
+leadingEta m lambda = etaAt (m .eta) (leading lambda)
+
+unfoldable pub facetOf : Kind → Microsurface → Color → Bounce → Vec3
+facetOf Metal m lambda b = conductorNormal (m .roughness) (localWo b) (b .disk) (b .c) (b .s)
+facetOf Glass m lambda b = dielectricNormal (m .roughness) (leadingEta m lambda) (localWo b) (b .disk) (b .c) (b .s)
+
+unfoldable pub facet : Microsurface → Color → Bounce → Vec3
+facet m lambda b = facetOf (m .kind) m lambda b
+
+-- F at a wavelength, for local wo and the facet's normal
+unfoldable pub fresnelAt : Microsurface → Color → Bounce → Float → Float
+fresnelAt m lambda b wavelength =
+    fAt (localWo b) (facet m lambda b) (etaAt (m .eta) wavelength) (kAt (m .k) wavelength)
+
+unfoldable pub share : Microsurface → Color → Bounce → Float
+share m lambda b = fresnelAt m lambda b (leading lambda)
+
+-- a backface of metal loses the light
+unfoldable pub scatterOn : Kind → Microsurface → Color → Bounce → Scattered
+scatterOn Metal m lambda b = cond (b .backface) lost (conductorFrom (m .roughness) (localWo b) (facet m lambda b))
+scatterOn Glass m lambda b =
+    dielectricFrom (leadingEta m lambda) (share m lambda b) (b .u) (localWo b) (facet m lambda b)
+
+unfoldable pub scatter : Microsurface → Color → Bounce → Scattered
+scatter m lambda b = scatterOn (m .kind) m lambda b
+
+-- ---- the weight of a wavelength (ours)
+-- q is 1 where there is one direction only: delta, and glass whose eta at the leading wavelength is 1.0
+unfoldable pub oneDirection : Kind → Microsurface → Color → Bool
+oneDirection Metal m lambda = isDelta (m .roughness)
+oneDirection Glass m lambda = isSmooth (m .roughness) (leadingEta m lambda)
+
+unfoldable pub shadowing : Microsurface → Color → Bounce → Vec3 → Float
+shadowing m lambda b wi =
+    cond (oneDirection (m .kind) m lambda) f1
+    (gOverG1 (m .roughness) (localWo b) wi (facet m lambda b))
+
+-- 0 if F is NaN, F if it is at most 1, else 1.0
+unfoldable pub metalShare : Float → Float
+metalShare F = cond (isNan F) f0 (cond (le F f1) F f1)
+
+unfoldable pub filtered : Kind → Bool → Float → Float → Float → Float → Float
+filtered Metal reflection F q ks tf = ks ⊗ metalShare F ⊗ q
+filtered Glass reflection F q ks tf = cond reflection (ks ⊗ q) (tf ⊗ q)
+
+-- a wavelength of 0 weighs 0, and so does each if the light is lost
+unfoldable pub weightFrom : Scattered → Microsurface → Color → Bounce → Float → Float → Float → Float
+weightFrom lost m lambda b wavelength ks tf = f0
+weightFrom totally m lambda b wavelength ks tf = f0
+weightFrom (scattered wi reflection) m lambda b wavelength ks tf =
+    cond (eq wavelength terminated) f0
+    (filtered (m .kind) reflection (fresnelAt m lambda b wavelength) (shadowing m lambda b wi) ks tf)
+
+unfoldable pub weights : Microsurface → Color → Bounce → Color
+weights m lambda b =
+    let s = scatter m lambda b in
+    color
+    (weightFrom s m lambda b (lambda .s0) (b .ks .s0) (b .tf .s0))
+    (weightFrom s m lambda b (lambda .s1) (b .ks .s1) (b .tf .s1))
+    (weightFrom s m lambda b (lambda .s2) (b .ks .s2) (b .tf .s2))
+    (weightFrom s m lambda b (lambda .s3) (b .ks .s3) (b .tf .s3))
+
+-- ---- the path after a bounce that isn't refused
+-- wavelengths end, then each power becomes itself times the weight at its wavelength
+unfoldable pub advanced : Path → Microsurface → Bounce → Path
+advanced p m b =
+    let lambda = lambdaOn m (p .lambda) in
+    path lambda (weighed (p .power) (weights m lambda b))

@@ -1,0 +1,14 @@
+-- The product of weights (document 01, "Bounce": the reckoning beside the program). It is fed each bounce's arguments but the path, and reads no answer and no returned path. Definitions only.
+use Rattle.optics.specs.Surface.{Microsurface}
+use Rattle.optics.specs.Checked.{Verdict, accepted, rejected}
+use Rattle.path.specs.declared.records.Path.{Path}
+use Rattle.path.specs.declared.records.Bounce.{Bounce}
+use Rattle.path.specs.Bounce.{checkBounce, advanced}
+
+-- a refused bounce changes nothing
+unfoldable pub unlessRefused : Verdict → Path → Path → Path
+unlessRefused accepted p next = next
+unlessRefused (rejected n) p next = p
+
+unfoldable pub reckon : Path → Microsurface → Bounce → Path
+reckon p m b = unlessRefused (checkBounce p m b) p (advanced p m b)

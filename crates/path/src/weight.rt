@@ -1,0 +1,79 @@
+// The weight of a bounce at each wavelength of the path: ours (document 01, "Bounce").
+use crate::wavelength::TERMINATED;
+use numbers::vec3::Vec3;
+use optics::color::Color;
+use optics::microfacet::Surface;
+ghost use mathlib.Core.Path.{_≡_};
+ghost use mathlib.Core.Bool.{cond};
+ghost use lib.Ieee.{eq};
+ghost use Rattle.numbers.specs.Float.{_⊗_, f0, f1};
+ghost use Rattle.numbers.specs.DenseSpectrum.{terminated};
+ghost use Rattle.optics.specs.Facets.{gOverG1};
+ghost use Rattle.path.specs.Path.{each2};
+ghost use Rattle.path.specs.Bounce.{metalShare};
+
+// The weights of light that is lost.
+pub const LOST: Color = Color {
+    s0: 0.0,
+    s1: 0.0,
+    s2: 0.0,
+    s3: 0.0,
+};
+
+// q: the share of the light that the facets let through to `wi`, and 1 where the surface scatters
+// into one direction.
+pub fn shadowing(surface: Surface, one_direction: bool, wo: Vec3, wi: Vec3, wh: Vec3) -> f64
+    ensures { λ r. ⌜ r ≡ cond «one_direction» f1 (gOverG1 (surface .roughness) wo wi wh) ⌝ }
+{
+    if one_direction {
+        return 1.0;
+    }
+    surface.g_over_g1(wo, wi, wh)
+}
+
+// The share of light that metal reflects, from its Fresnel term `f`: rounding may take that above 1.
+fn metal_share(f: f64) -> f64
+    ensures { λ r. ⌜ r ≡ metalShare f ⌝ }
+{
+    if f != f {
+        return 0.0;
+    }
+    if f <= 1.0 {
+        return f;
+    }
+    1.0
+}
+
+// The filter of light that metal reflects, whose Fresnel terms are `f`.
+pub fn metal_filter(ks: Color, f: Color) -> Color
+    ensures { λ r. ⌜ r ≡ each2 (λ x F. x ⊗ metalShare F) ks f ⌝ }
+{
+    Color {
+        s0: ks.s0 * metal_share(f.s0),
+        s1: ks.s1 * metal_share(f.s1),
+        s2: ks.s2 * metal_share(f.s2),
+        s3: ks.s3 * metal_share(f.s3),
+    }
+}
+
+// The weight at one wavelength: an ended one weighs 0.
+fn weight(wl: f64, filter: f64, q: f64) -> f64
+    ensures { λ r. ⌜ r ≡ cond (eq wl terminated) f0 (filter ⊗ q) ⌝ }
+{
+    if wl == TERMINATED {
+        return 0.0;
+    }
+    filter * q
+}
+
+// The weights at four wavelengths, from the filter of the branch that was taken.
+pub fn weights(lambda: Color, filter: Color, q: f64) -> Color
+    ensures { λ r. ⌜ r ≡ each2 (λ wl x. cond (eq wl terminated) f0 (x ⊗ q)) lambda filter ⌝ }
+{
+    Color {
+        s0: weight(lambda.s0, filter.s0, q),
+        s1: weight(lambda.s1, filter.s1, q),
+        s2: weight(lambda.s2, filter.s2, q),
+        s3: weight(lambda.s3, filter.s3, q),
+    }
+}
