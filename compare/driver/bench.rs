@@ -1,0 +1,194 @@
+//! Times, here and in the Rust: the least of several passes, each over fresh data.
+use super::harness::*;
+use super::inputs::Rng;
+use super::numbers::{basis_calls, root_calls, BasisCalls, RootCall};
+use super::optics::{of_surface_calls, OfSurface};
+use super::path::{checked_bounce, plain, usual_bounce, usual_path, usual_surface, Bounce, BounceCall, Path};
+use super::surfaces::Surface;
+use super::Function;
+use crate::Vec3;
+
+const PASSES: usize = 61;
+const SIZE: usize = 4096;
+
+fn line(name: &str, here: f64, rust: f64) {
+    println!("{name:<46} {here:>8.2} {rust:>8.2} {:>6.2}", here / rust);
+}
+
+/// The least times of several passes of two loops on the same data, each first in every other pass.
+fn least<T>(rng: &mut Rng, fresh: fn(&mut Rng) -> T, here: impl Fn(&[T]) -> f64, rust: impl Fn(&[T]) -> f64) -> (f64, f64) {
+    let mut least = (f64::INFINITY, f64::INFINITY);
+    for pass in 0..PASSES {
+        let data: Vec<T> = (0..SIZE).map(|_| fresh(rng)).collect();
+        for turn in 0..2 {
+            if (pass + turn) % 2 == 0 {
+                least.0 = least.0.min(here(&data));
+            } else {
+                least.1 = least.1.min(rust(&data));
+            }
+        }
+    }
+    least
+}
+
+/// A normal value above 0.
+fn normal(rng: &mut Rng) -> f64 {
+    f64::from_bits((rng.next() % 0x7fe0000000000000) + 0x0010000000000000)
+}
+
+fn direction(rng: &mut Rng) -> Vec3 {
+    Vec3::new(rng.between(-1.0, 1.0), rng.between(-1.0, 1.0), rng.between(-1.0, 1.0)).normalize()
+}
+
+#[inline(never)]
+fn array(data: &[f64], f: RootCall) -> f64 {
+    let mut out = vec![0.5; data.len()];
+    let f = black_box(f);
+    timed(data.len(), || {
+        for (o, x) in out.iter_mut().zip(data) {
+            *o = f(*x);
+        }
+        out
+    })
+}
+
+/// The machine's instruction in a loop, with no call.
+#[inline(never)]
+fn array_inline(data: &[f64]) -> f64 {
+    let mut out = vec![0.5; data.len()];
+    timed(data.len(), || {
+        for (o, x) in out.iter_mut().zip(data) {
+            *o = black_box(*x).sqrt();
+        }
+        out
+    })
+}
+
+/// Each root needs the one before: of x and a value that is 0 times it.
+#[inline(never)]
+fn chain(data: &[f64], f: RootCall) -> f64 {
+    let f = black_box(f);
+    timed(data.len(), || {
+        let mut r = 1.0;
+        for x in data {
+            r = f(*x + r * 0.0);
+        }
+        r
+    })
+}
+
+/// The basis around a normal, and a direction in it.
+#[inline(never)]
+fn basis(data: &[(Vec3, Vec3)], f: BasisCalls) -> f64 {
+    let mut out = vec![Vec3::ZERO; data.len()];
+    let f = black_box(f);
+    timed(data.len(), || {
+        for (o, (n, w)) in out.iter_mut().zip(data) {
+            *o = f.1(f.0(*n), *w);
+        }
+        out
+    })
+}
+
+/// A function of a surface, two directions and a wavelength, on one surface.
+#[inline(never)]
+fn of_surface(data: &[(Vec3, Vec3, f64)], s: &Surface, f: OfSurface) -> f64 {
+    let mut out = vec![0.0; data.len()];
+    let f = black_box(f);
+    timed(data.len(), || {
+        for (o, (wo, w, wl)) in out.iter_mut().zip(data) {
+            *o = f(s, *wo, *w, *wl);
+        }
+        out
+    })
+}
+
+/// Bounces, each on a path of its own.
+#[inline(never)]
+fn bounces(data: &[(Path, Bounce)], s: &Surface, f: BounceCall) -> f64 {
+    let mut out = vec![0.0; data.len()];
+    let f = black_box(f);
+    timed(data.len(), || {
+        for (o, (p, b)) in out.iter_mut().zip(data) {
+            let a = f(*p, s, *b);
+            *o = a.path.power.0[0] + a.wi.x + a.density.value;
+        }
+        out
+    })
+}
+
+/// ns for each bounce of lists of `n`, each on one path and on four surfaces by turns.
+#[inline(never)]
+fn lists(data: &[(Path, Bounce)], s: &[Surface], n: usize, f: BounceCall) -> f64 {
+    let f = black_box(f);
+    timed(data.len(), || {
+        let mut sum = 0.0;
+        let mut i = 0;
+        for list in data.chunks(n) {
+            let mut p = list[0].0;
+            for (_, b) in list {
+                p = f(p, &s[i % s.len()], *b).path;
+                i += 1;
+            }
+            sum += p.power.0[0];
+        }
+        sum
+    })
+}
+
+fn up(rng: &mut Rng) -> Vec3 {
+    Vec3::new(rng.between(-1.0, 1.0), rng.between(-1.0, 1.0), rng.between(0.05, 1.0)).normalize()
+}
+
+/// The optics on whole surfaces, and bounces.
+fn bench_bounces(rng: &mut Rng) {
+    println!("on a surface, whose spectra are read at a wavelength");
+    for (name, glass, here, rust) in of_surface_calls() {
+        let s = usual_surface(rng, glass, true, true);
+        let two = |rng: &mut Rng| (up(rng), up(rng), rng.between(360.0, 830.0));
+        let (a, b) = least(rng, two, |d| of_surface(d, &s, here), |d| of_surface(d, &s, rust));
+        line(name, a, b);
+    }
+    println!("a whole checked bounce");
+    let one = |rng: &mut Rng| (usual_path(rng), usual_bounce(rng));
+    for (name, glass, rough, varying) in [
+        ("rough metal", false, true, true),
+        ("delta metal", false, false, true),
+        ("rough glass, constant eta", true, true, false),
+        ("rough glass, varying eta", true, true, true),
+        ("delta glass, constant eta", true, false, false),
+        ("delta glass, varying eta", true, false, true),
+    ] {
+        let s = usual_surface(rng, glass, rough, varying);
+        let (a, b) = least(rng, one, |d| bounces(d, &s, checked_bounce), |d| bounces(d, &s, plain));
+        line(name, a, b);
+    }
+    println!("each bounce of a list on one path: metal and glass, rough and delta by turns");
+    let s = [(false, true), (true, true), (false, false), (true, false)].map(|(glass, rough)| usual_surface(rng, glass, rough, false));
+    for n in [1, 10, 100, 1000] {
+        let (a, b) = least(rng, one, |d| lists(d, &s, n, checked_bounce), |d| lists(d, &s, n, plain));
+        line(&format!("  {n} bounces"), a, b);
+    }
+}
+
+pub fn bench(seed: u64, functions: &[Function]) {
+    let mut rng = Rng(seed);
+    let (here, rust) = root_calls();
+    println!("{:<46} {:>8} {:>8} {:>6}", format!("ns, least of {PASSES} passes over {SIZE} inputs"), "here", "Rust", "ratio");
+    let (a, b) = least(&mut rng, normal, |d| array(d, here), |d| array(d, rust));
+    line("square root, array of normal values", a, b);
+    let (a, b) = least(&mut rng, normal, |d| array(d, here), array_inline);
+    line("  against the instruction with no call", a, b);
+    let (a, b) = least(&mut rng, normal, |d| chain(d, here), |d| chain(d, rust));
+    line("square root, each from the one before", a, b);
+    let (here, rust) = basis_calls();
+    let both = |rng: &mut Rng| (direction(rng), direction(rng));
+    let (a, b) = least(&mut rng, both, |d| basis(d, here), |d| basis(d, rust));
+    line("basis: Onb::new, then to_local", a, b);
+    for f in functions {
+        if let Some((a, b)) = f.times(seed, PASSES, SIZE) {
+            line(f.name, a, b);
+        }
+    }
+    bench_bounces(&mut rng);
+}

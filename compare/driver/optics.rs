@@ -1,0 +1,854 @@
+//! The crate `optics` beside lumo's facets, Fresnel terms, sampler, mirror, bend and densities.
+use super::harness::*;
+use super::inputs::{Rng, Slot};
+use super::numbers::record;
+use super::spectra::{self, SAMPLES};
+use super::surfaces::*;
+use crate::functions;
+use crate::tracer::bxdf::microfacet::{conductor, dielectric, util};
+use crate::tracer::bxdf::BxDF;
+use crate::tracer::ColorWavelength;
+use crate::stand_in::Random;
+use crate::{Vec2, Vec3};
+use std::panic::{catch_unwind, AssertUnwindSafe};
+
+/// Four samples, laid out as C does.
+#[derive(Clone, Copy, Debug, PartialEq)]
+#[repr(C)]
+pub struct Color(pub [f64; 4]);
+
+impl Words for Color {
+    const SHAPE: &'static [Slot] = &[Slot::Float; 4];
+    fn get(w: &[f64]) -> Self {
+        Self([w[0], w[1], w[2], w[3]])
+    }
+    fn put(self, out: &mut [u64]) {
+        for (o, x) in out.iter_mut().zip(self.0) {
+            *o = bits(x);
+        }
+    }
+}
+
+/// 0 for a direction, 1 for none, 2 for total reflection; and the direction.
+#[derive(Clone, Copy)]
+#[repr(C)]
+pub struct Outgoing {
+    case: u64,
+    wi: Vec3,
+}
+
+impl Words for Outgoing {
+    const SHAPE: &'static [Slot] = &[Slot::Float; 4];
+    fn get(_: &[f64]) -> Self {
+        unreachable!()
+    }
+    fn put(self, out: &mut [u64]) {
+        out[0] = self.case;
+        self.wi.put(&mut out[1..4]);
+    }
+}
+
+/// The same, with the branch that a sampler took.
+#[derive(Clone, Copy)]
+#[repr(C)]
+pub struct Scattered {
+    case: u64,
+    reflection: bool,
+    wi: Vec3,
+}
+
+impl Words for Scattered {
+    const SHAPE: &'static [Slot] = &[Slot::Float; 5];
+    fn get(_: &[f64]) -> Self {
+        unreachable!()
+    }
+    fn put(self, out: &mut [u64]) {
+        out[0] = self.case;
+        out[1] = self.reflection as u64;
+        self.wi.put(&mut out[2..5]);
+    }
+}
+
+/// An answer of a call that may refuse: document 01's number, 0 where a value is given, and the value.
+#[derive(Clone, Copy)]
+#[repr(C)]
+pub struct Checked<T> {
+    number: u64,
+    value: T,
+}
+
+impl<T: Words> Checked<T> {
+    fn put(self, out: &mut [u64]) {
+        out[0] = self.number;
+        self.value.put(&mut out[1..]);
+    }
+}
+
+/// A surface that was made.
+#[derive(Clone, Copy)]
+#[repr(C)]
+struct Made {
+    number: u64,
+    glass: bool,
+    a: Vec2,
+}
+
+#[derive(Clone, Copy)]
+#[repr(C)]
+struct CheckedOutgoing {
+    number: u64,
+    case: u64,
+    wi: Vec3,
+}
+
+#[inline(always)]
+fn outgoing(wi: Option<Vec3>) -> Outgoing {
+    match wi {
+        Some(wi) => Outgoing { case: 0, wi },
+        None => Outgoing { case: 1, wi: Vec3::ZERO },
+    }
+}
+
+const TOTAL: Outgoing = Outgoing { case: 2, wi: Vec3::ZERO };
+
+/// lumo's `refract`; total where it comes upon `unreachable!`.
+fn rust_refract(eta: f64, wo: Vec3, n: Vec3) -> Outgoing {
+    caught(|| outgoing(util::refract(eta, wo, n))).unwrap_or(TOTAL)
+}
+
+/// None where a call of the Rust's panics.
+pub fn caught<R>(call: impl FnOnce() -> R) -> Option<R> {
+    quiet(|| catch_unwind(AssertUnwindSafe(call)).ok())
+}
+
+/// Directions whose product, computed, is the cosine to its last bit.
+#[inline(always)]
+fn of_cosine(cosine: f64) -> (Vec3, Vec3) {
+    (Vec3::new(cosine, 0.0, 0.0), Vec3::new(1.0, -0.0, -0.0))
+}
+
+/// The four wavelengths at which constant spectra are read.
+fn leading() -> ColorWavelength {
+    ColorWavelength { lambda: [360.0, 0.0, 0.0, 0.0] }
+}
+
+fn of_conductor(wi: Option<Vec3>) -> Scattered {
+    let Outgoing { case, wi } = outgoing(wi);
+    Scattered { case, reflection: case == 0, wi }
+}
+
+/// lumo's sampler of glass, with the branch that its test takes.
+fn rust_dielectric_sample(a: Vec2, eta: f64, k: f64, wo: Vec3, u: f64, disk: f64, c: f64, s: f64) -> Scattered {
+    let of = lent(a, eta, k);
+    let random = Random { x: disk, y: 0.0, c, s };
+    let wh = if eta == 1.0 || of.is_delta() { Vec3::Z } else { of.sample_normal(wo, random) };
+    let share = of.f_at(wo, wh, 360.0);
+    let reflects = u < share / (share + (1.0 - share));
+    match caught(|| dielectric::sample(wo, of, &mut leading(), u, random)) {
+        Some(Some(wi)) => Scattered { case: 0, reflection: reflects, wi },
+        Some(None) => Scattered { case: 1, reflection: false, wi: Vec3::ZERO },
+        None => Scattered { case: 2, reflection: false, wi: Vec3::ZERO },
+    }
+}
+
+fn rust_pdf(glass: bool, a: Vec2, wo: Vec3, wi: Vec3, reflection: bool, eta: f64, k: f64) -> f64 {
+    // lumo's metal answers 0 to what isn't a reflection before it looks at anything else
+    if glass {
+        return dielectric::pdf(wo, wi, reflection, &leading(), lent(a, eta, k));
+    }
+    metal_pdf(a, wo, wi, reflection)
+}
+
+/// lumo's `BxDF::pdf` of metal.
+fn metal_pdf(a: Vec2, wo: Vec3, wi: Vec3, reflection: bool) -> f64 {
+    static mut METAL: Option<BxDF> = None;
+    let metal = unsafe { &mut *std::ptr::addr_of_mut!(METAL) };
+    let metal = metal.get_or_insert_with(|| {
+        let one = crate::tracer::DenseSpectrum::from_constant;
+        BxDF::MfConductor(distribution(a, one(1.0), one(2.0)))
+    });
+    if let BxDF::MfConductor(crate::tracer::microfacet::MfDistribution::Ggx(cfg)) = metal {
+        cfg.roughness = a;
+    }
+    metal.pdf(wo, wi, reflection, &leading())
+}
+
+/// g over g1 by document 01's weight: 0 where g1 is 0.
+fn g_over_g1(a: Vec2, wo: Vec3, wi: Vec3, wh: Vec3) -> f64 {
+    let g1 = facets(a).g1(wo, wh);
+    if g1 == 0.0 { 0.0 } else { facets(a).g(wo, wi, wh) / g1 }
+}
+
+functions! {
+    901 optics_is_delta(a: Vec2) -> bool = facets(a).is_delta();
+    902 optics_disney_diffuse(a: Vec2, wo: f64, wi: f64, wh: f64) -> f64 = facets(a).disney_diffuse(wo, wi, wh);
+    903 optics_f_schlick(f0: f64, f90: f64, cosine: f64) -> f64 = facets(Vec2::splat(1.0)).f_schlick(f0, f90, cosine);
+    904 optics_d(a: Vec2, wh: Vec3) -> f64 = facets(a).d(wh);
+    905 optics_lambda(a: Vec2, w: Vec3) -> f64 = facets(a).lambda(w);
+    906 optics_chi_pass(wo: Vec3, wh: Vec3) -> bool = facets(Vec2::splat(1.0)).chi_pass(wo, wh);
+    907 optics_g(a: Vec2, wo: Vec3, wi: Vec3, wh: Vec3) -> f64 = facets(a).g(wo, wi, wh);
+    908 optics_g1(a: Vec2, wo: Vec3, wh: Vec3) -> f64 = facets(a).g1(wo, wh);
+    909 optics_g_over_g1(a: Vec2, wo: Vec3, wi: Vec3, wh: Vec3) -> f64 = g_over_g1(a, wo, wi, wh);
+    910 optics_sample_normal_pdf(a: Vec2, wh: Vec3, wo: Vec3) -> f64 = facets(a).sample_normal_pdf(wh, wo);
+    911 optics_sample_normal(a: Vec2, wo: Vec3, disk: f64, c: f64, s: f64) -> Vec3 = facets(a).sample_normal(wo, Random { x: disk, y: 0.0, c, s });
+    912 optics_fr_real(cosine: f64, eta: f64) -> f64 = {
+        let (wo, wh) = of_cosine(cosine);
+        facets(Vec2::splat(1.0)).fr_real(wo, wh, eta)
+    };
+    913 optics_fr_complex(cosine: f64, eta: f64, k: f64) -> f64 = {
+        let (wo, wh) = of_cosine(cosine);
+        facets(Vec2::splat(1.0)).fr_complex(wo, wh, eta, k)
+    };
+    914 optics_f_at(wo: Vec3, wh: Vec3, eta: f64, k: f64) -> f64 = lent(Vec2::splat(1.0), eta, k).f_at(wo, wh, 360.0);
+    921 optics_reflect(wo: Vec3, n: Vec3) -> Outgoing = outgoing(util::reflect(wo, n));
+    922 optics_refract(eta: f64, wo: Vec3, n: Vec3) -> Outgoing = rust_refract(eta, wo, n);
+    923 optics_conductor_sample(a: Vec2, wo: Vec3, disk: f64, c: f64, s: f64) -> Scattered = of_conductor(conductor::sample(wo, facets(a), Random { x: disk, y: 0.0, c, s }));
+    924 optics_dielectric_sample(a: Vec2, eta: f64, k: f64, wo: Vec3, u: f64, disk: f64, c: f64, s: f64) -> Scattered = rust_dielectric_sample(a, eta, k, wo, u, disk, c, s);
+    925 optics_conductor_pdf(a: Vec2, wo: Vec3, wi: Vec3) -> f64 = conductor::pdf(wo, wi, facets(a));
+    926 optics_dielectric_pdf(a: Vec2, wo: Vec3, wi: Vec3, reflection: bool, eta: f64, k: f64) -> f64 = dielectric::pdf(wo, wi, reflection, &leading(), lent(a, eta, k));
+    927 optics_pdf(glass: bool, a: Vec2, wo: Vec3, wi: Vec3, reflection: bool, eta: f64, k: f64) -> f64 = rust_pdf(glass, a, wo, wi, reflection, eta, k);
+}
+
+// ---- inputs: what each word of a function stands for
+
+#[derive(Clone, Copy, PartialEq)]
+enum Part {
+    Roughness,
+    Wo,
+    Wi,
+    Wh,
+    Index,
+    Absorption,
+    Flag,
+    U,
+    Disk,
+    Pair,
+    Cosine,
+    Any,
+}
+
+impl Part {
+    fn words(self) -> usize {
+        match self {
+            Part::Roughness | Part::Pair => 2,
+            Part::Wo | Part::Wi | Part::Wh => 3,
+            _ => 1,
+        }
+    }
+}
+
+fn parts(name: &str) -> &'static [Part] {
+    use Part::*;
+    match name {
+        "optics_is_delta" => &[Roughness],
+        "optics_disney_diffuse" => &[Roughness, Cosine, Cosine, Cosine],
+        "optics_f_schlick" => &[Any, Any, Cosine],
+        "optics_d" => &[Roughness, Wh],
+        "optics_lambda" => &[Roughness, Wo],
+        "optics_chi_pass" => &[Wo, Wh],
+        "optics_g" | "optics_g_over_g1" => &[Roughness, Wo, Wi, Wh],
+        "optics_g1" => &[Roughness, Wo, Wh],
+        "optics_sample_normal_pdf" => &[Roughness, Wh, Wo],
+        "optics_sample_normal" | "optics_conductor_sample" => &[Roughness, Wo, Disk, Pair],
+        "optics_fr_real" => &[Cosine, Index],
+        "optics_fr_complex" => &[Cosine, Index, Absorption],
+        "optics_f_at" => &[Wo, Wh, Index, Absorption],
+        "optics_reflect" => &[Wo, Wh],
+        "optics_refract" => &[Index, Wo, Wh],
+        "optics_dielectric_sample" => &[Roughness, Index, Absorption, Wo, U, Disk, Pair],
+        "optics_conductor_pdf" => &[Roughness, Wo, Wi],
+        "optics_dielectric_pdf" => &[Roughness, Wo, Wi, Flag, Index, Absorption],
+        "optics_pdf" => &[Flag, Roughness, Wo, Wi, Flag, Index, Absorption],
+        _ => unreachable!(),
+    }
+}
+
+fn put3(w: &mut [f64], v: Vec3) {
+    w.copy_from_slice(&[v.x, v.y, v.z]);
+}
+
+/// The parts of an input, as a bounce has them or at the edges. `i` says how many of its words are any.
+fn fill(parts: &[Part], rng: &mut Rng, i: usize, w: &mut [f64]) {
+    let eta = index(rng);
+    let [wo, wi, wh] = directions(rng, eta);
+    let glass = rng.below(2) == 0;
+    let mut at = 0;
+    for part in parts {
+        let n = part.words();
+        let words = &mut w[at..at + n];
+        at += n;
+        match part {
+            Part::Roughness => words.copy_from_slice(&roughness(rng)),
+            Part::Wo => put3(words, wo),
+            Part::Wi => put3(words, wi),
+            Part::Wh => put3(words, wh),
+            Part::Index => words[0] = eta,
+            Part::Absorption => words[0] = if glass { 0.0 * rng.sign() } else { absorption(rng) },
+            Part::Flag => words[0] = rng.below(2) as f64,
+            Part::U | Part::Disk => words[0] = random_number(rng),
+            Part::Pair => words.copy_from_slice(&circle_pair(rng)),
+            Part::Cosine => words[0] = if rng.below(4) == 0 { any(rng) } else { wo.dot(wh) },
+            Part::Any => words[0] = if rng.below(2) == 0 { any(rng) } else { rng.between(-1.0, 1.0) },
+        }
+    }
+    // these functions take any floats: one word is any, or all
+    match i % 16 {
+        0..=2 => {
+            let at = rng.below(w.len());
+            w[at] = any(rng);
+        }
+        3 => w.iter_mut().for_each(|v| *v = any(rng)),
+        _ => (),
+    }
+}
+
+/// Sources have to be plain functions, so there is one for each name.
+macro_rules! sources {
+    ( $( $name:literal ),* $(,)? ) => {
+        fn source(name: &str) -> fn(&mut Rng, usize, &mut [f64]) {
+            match name {
+                $( $name => |rng, i, w| {
+                    fill(parts($name), rng, i, w);
+                    // flags are 0 or 1
+                    let mut at = 0;
+                    for part in parts($name) {
+                        if *part == Part::Flag {
+                            w[at] = (w[at] != 0.0) as u8 as f64;
+                        }
+                        at += part.words();
+                    }
+                }, )*
+                _ => unreachable!(),
+            }
+        }
+
+        fn bench_source(name: &str) -> fn(&mut Rng, &[Slot], &mut [f64]) {
+            match name {
+                $( $name => |rng, _, w| usual_parts(parts($name), rng, w), )*
+                _ => unreachable!(),
+            }
+        }
+    };
+}
+
+sources! {
+    "optics_is_delta", "optics_disney_diffuse", "optics_f_schlick", "optics_d", "optics_lambda", "optics_chi_pass",
+    "optics_g", "optics_g1", "optics_g_over_g1", "optics_sample_normal_pdf", "optics_sample_normal",
+    "optics_fr_real", "optics_fr_complex", "optics_f_at", "optics_reflect", "optics_refract",
+    "optics_conductor_sample", "optics_dielectric_sample", "optics_conductor_pdf", "optics_dielectric_pdf", "optics_pdf",
+}
+
+/// What a renderer meets: rough surfaces of index 1.5, directions of one hemisphere.
+fn usual_parts(parts: &[Part], rng: &mut Rng, w: &mut [f64]) {
+    let mut up = || {
+        let v = Vec3::new(rng.between(-1.0, 1.0), rng.between(-1.0, 1.0), rng.between(0.05, 1.0)).normalize();
+        (v, rng.next())
+    };
+    let (wo, a) = up();
+    let (wi, b) = up();
+    let wh = (wo + wi).normalize();
+    let theta = (a >> 11) as f64 / (1u64 << 53) as f64 * std::f64::consts::TAU;
+    let rest = Rng(b);
+    let mut rng = rest;
+    let mut at = 0;
+    for part in parts {
+        let n = part.words();
+        let words = &mut w[at..at + n];
+        at += n;
+        match part {
+            Part::Roughness => {
+                let a = rng.between(0.05, 1.0);
+                words.copy_from_slice(&[a, a]);
+            }
+            Part::Wo => put3(words, wo),
+            Part::Wi => put3(words, wi),
+            Part::Wh => put3(words, wh),
+            Part::Index => words[0] = 1.5,
+            Part::Absorption => words[0] = 0.0,
+            Part::Flag => words[0] = 1.0,
+            Part::U | Part::Disk => words[0] = rng.unit(),
+            Part::Pair => words.copy_from_slice(&[theta.cos(), theta.sin()]),
+            Part::Cosine | Part::Any => words[0] = rng.unit(),
+        }
+    }
+}
+
+// ---- functions of spectra, and the calls that refuse: words are flags, indices into the pool, and values
+
+extern "C" {
+    fn optics_constant_eta(eta: *const f64, n: usize) -> bool;
+    fn optics_eta_at(eta: *const f64, n: usize, wl: f64) -> f64;
+    fn optics_k_at(k: *const f64, n: usize, wl: f64) -> f64;
+    fn optics_f(eta: *const f64, n: usize, k: *const f64, m: usize, wo: Vec3, wh: Vec3, wls: Color) -> Color;
+    fn optics_checked_make_surface(glass: bool, roughness: f64, eta: *const f64, n: usize, k: *const f64, m: usize) -> Made;
+    fn optics_checked_reflect(wo: Vec3, n: Vec3) -> CheckedOutgoing;
+    fn optics_checked_refract(eta: f64, wo: Vec3, n: Vec3) -> CheckedOutgoing;
+    fn optics_checked_is_delta(glass: bool, a: Vec2, eta: *const f64, n: usize, k: *const f64, m: usize) -> Checked<bool>;
+    fn optics_checked_lambda(glass: bool, a: Vec2, eta: *const f64, n: usize, k: *const f64, m: usize, w: Vec3) -> Checked<f64>;
+    fn optics_checked_chi_pass(glass: bool, a: Vec2, eta: *const f64, n: usize, k: *const f64, m: usize, wo: Vec3, wh: Vec3) -> Checked<bool>;
+    fn optics_checked_g1(glass: bool, a: Vec2, eta: *const f64, n: usize, k: *const f64, m: usize, wo: Vec3, wh: Vec3) -> Checked<f64>;
+    fn optics_checked_g(glass: bool, a: Vec2, eta: *const f64, n: usize, k: *const f64, m: usize, wo: Vec3, wi: Vec3, wh: Vec3) -> Checked<f64>;
+    fn optics_checked_d(glass: bool, a: Vec2, eta: *const f64, n: usize, k: *const f64, m: usize, wh: Vec3) -> Checked<f64>;
+    fn optics_checked_disney_diffuse(glass: bool, a: Vec2, eta: *const f64, n: usize, k: *const f64, m: usize, wo: f64, wi: f64, wh: f64) -> Checked<f64>;
+    fn optics_checked_f_at(glass: bool, a: Vec2, eta: *const f64, n: usize, k: *const f64, m: usize, wo: Vec3, wh: Vec3, wl: f64) -> Checked<f64>;
+    fn optics_checked_f(glass: bool, a: Vec2, eta: *const f64, n: usize, k: *const f64, m: usize, wo: Vec3, wh: Vec3, wls: Color) -> Checked<Color>;
+    fn optics_checked_sample_normal(glass: bool, a: Vec2, eta: *const f64, n: usize, k: *const f64, m: usize, wo: Vec3, disk: f64, c: f64, s: f64) -> Checked<Vec3>;
+    fn optics_checked_pdf(glass: bool, a: Vec2, eta: *const f64, n: usize, k: *const f64, m: usize, wo: Vec3, wi: Vec3, reflection: bool, wl: f64) -> Checked<f64>;
+}
+
+/// How many words a surface has: whether it is glass, x and y roughness, and which eta and k of the pool.
+pub const SURFACE: usize = 5;
+
+/// The surface of an input's first words.
+pub struct Fields<'a> {
+    pub glass: bool,
+    pub a: Vec2,
+    pub eta: &'a [f64],
+    pub k: &'a [f64],
+}
+
+pub fn fields(w: &[f64]) -> Fields<'static> {
+    Fields {
+        glass: w[0] != 0.0,
+        a: Vec2::new(w[1], w[2]),
+        eta: &POOL.etas[w[3] as usize],
+        k: &POOL.ks[w[4] as usize],
+    }
+}
+
+impl Fields<'_> {
+    fn refused(&self) -> u64 {
+        surface_refused(self.glass, self.a, self.eta, self.k)
+    }
+
+    /// lumo's surface, made anew where the last call had another.
+    fn rust(&self) -> &'static BxDF {
+        static mut LAST: Option<(bool, *const f64, *const f64, BxDF)> = None;
+        let last = unsafe { &mut *std::ptr::addr_of_mut!(LAST) };
+        let key = (self.glass, self.eta.as_ptr(), self.k.as_ptr());
+        if !matches!(last, Some((g, e, k, _)) if (*g, *e, *k) == key) {
+            let of = distribution(self.a, spectrum_of(self.eta), spectrum_of(self.k));
+            let of = if self.glass { BxDF::MfDielectric(of) } else { BxDF::MfConductor(of) };
+            *last = Some((key.0, key.1, key.2, of));
+        }
+        let of = &mut last.as_mut().unwrap().3;
+        if let BxDF::MfConductor(d) | BxDF::MfDielectric(d) = of {
+            if let crate::tracer::microfacet::MfDistribution::Ggx(cfg) = d {
+                cfg.roughness = self.a;
+            }
+        }
+        of
+    }
+
+    fn distribution(&self) -> &'static crate::tracer::microfacet::MfDistribution {
+        match self.rust() {
+            BxDF::MfConductor(d) | BxDF::MfDielectric(d) => d,
+            _ => unreachable!(),
+        }
+    }
+}
+
+fn v3(w: &[f64]) -> Vec3 {
+    Vec3::new(w[0], w[1], w[2])
+}
+
+/// The value where no check refuses, and otherwise the number of the first that does.
+fn checked<T: Words>(f: &Fields, checks: &[(u64, bool)], zero: T, value: impl FnOnce() -> T) -> Checked<T> {
+    let surface = f.refused();
+    if surface != 0 {
+        return Checked { number: surface, value: zero };
+    }
+    match checks.iter().find(|c| !c.1) {
+        Some((number, _)) => Checked { number: *number, value: zero },
+        None => Checked { number: 0, value: value() },
+    }
+}
+
+/// A value that is a number, and else 9.
+fn finite_only(c: Checked<f64>) -> Checked<f64> {
+    if c.number == 0 && !c.value.is_finite() { Checked { number: 9, value: 0.0 } } else { c }
+}
+
+/// Fills the surface, then the parts; a few of the words are then any.
+fn checked_fill(parts: &[Part], wavelengths: usize, rng: &mut Rng, w: &mut [f64]) {
+    let glass = rng.below(2) == 0;
+    let [eta, k] = POOL.pick_any(rng, glass);
+    w[0] = glass as u8 as f64;
+    w[1..3].copy_from_slice(&roughness(rng));
+    w[3] = eta as f64;
+    w[4] = k as f64;
+    let n = w.len() - wavelengths;
+    fill(parts, rng, 9, &mut w[SURFACE..n]);
+    for at in n..w.len() {
+        w[at] = if rng.below(12) == 0 { spectra::any_wavelength(rng, 1000) } else { spectra::wavelength(rng) };
+    }
+    // one word at an edge, often beyond a limit
+    if rng.below(8) == 0 {
+        let at = 1 + rng.below(2);
+        w[at] = any(rng);
+    } else if rng.below(8) == 0 && w.len() > SURFACE {
+        let at = SURFACE + rng.below(w.len() - SURFACE);
+        w[at] = any(rng);
+    } else if rng.below(16) == 0 {
+        let at = 1 + rng.below(2);
+        w[at] = [1e-5f64.next_down(), 1f64.next_up(), 0.0, f64::NAN, -1e-9][rng.below(5)];
+    }
+}
+
+/// A call that refuses: its parts after the surface, then wavelengths.
+macro_rules! refusing {
+    ( $( $number:literal $name:literal [ $( $part:ident ),* ] + $wls:literal -> $outs:literal, $here:expr, $rust:expr ; )* ) => {
+        fn refusing_functions() -> Vec<Function> {
+            vec![ $( {
+                const PARTS: &[Part] = &[ $( Part::$part ),* ];
+                let words: usize = PARTS.iter().map(|p| p.words()).sum();
+                let here: fn(&Fields, &[f64], &mut [u64]) = $here;
+                let rust: fn(&Fields, &[f64], &mut [u64]) = $rust;
+                Function {
+                    shape: vec![Slot::Float; SURFACE + words + $wls],
+                    source: Some(|rng, _, w| {
+                        checked_fill(PARTS, $wls, rng, w);
+                        let mut at = SURFACE;
+                        for part in PARTS {
+                            if *part == Part::Flag {
+                                w[at] = (w[at] != 0.0) as u8 as f64;
+                            }
+                            at += part.words();
+                        }
+                    }),
+                    ..Function::new(
+                        $name,
+                        $number,
+                        $outs,
+                        Box::new(move |w, out| here(&fields(w), &w[SURFACE..], out)),
+                        Box::new(move |w, out| rust(&fields(w), &w[SURFACE..], out)),
+                    )
+                }
+            }, )* ]
+        }
+    };
+}
+
+/// The fields as the static library takes them.
+macro_rules! call {
+    ( $name:ident, $f:expr $( , $arg:expr )* ) => {
+        unsafe { $name($f.glass, $f.a, $f.eta.as_ptr(), $f.eta.len(), $f.k.as_ptr(), $f.k.len() $( , $arg )* ) }
+    };
+}
+
+refusing! {
+    951 "optics_checked_is_delta" [] + 0 -> 2,
+        |f, _, out| call!(optics_checked_is_delta, f).put(out),
+        |f, _, out| checked(f, &[], false, || f.distribution().is_delta()).put(out);
+    952 "optics_checked_lambda" [Wo] + 0 -> 2,
+        |f, w, out| call!(optics_checked_lambda, f, v3(w)).put(out),
+        |f, w, out| checked(f, &[(5, is_direction(v3(w)))], 0.0, || f.distribution().lambda(v3(w))).put(out);
+    953 "optics_checked_chi_pass" [Wo, Wh] + 0 -> 2,
+        |f, w, out| call!(optics_checked_chi_pass, f, v3(w), v3(&w[3..])).put(out),
+        |f, w, out| {
+            let (wo, wh) = (v3(w), v3(&w[3..]));
+            checked(f, &[(5, is_direction(wo)), (5, is_direction(wh))], false, || f.distribution().chi_pass(wo, wh)).put(out)
+        };
+    954 "optics_checked_g1" [Wo, Wh] + 0 -> 2,
+        |f, w, out| call!(optics_checked_g1, f, v3(w), v3(&w[3..])).put(out),
+        |f, w, out| {
+            let (wo, wh) = (v3(w), v3(&w[3..]));
+            checked(f, &[(5, is_direction(wo)), (5, is_direction(wh))], 0.0, || f.distribution().g1(wo, wh)).put(out)
+        };
+    955 "optics_checked_g" [Wo, Wi, Wh] + 0 -> 2,
+        |f, w, out| call!(optics_checked_g, f, v3(w), v3(&w[3..]), v3(&w[6..])).put(out),
+        |f, w, out| {
+            let (wo, wi, wh) = (v3(w), v3(&w[3..]), v3(&w[6..]));
+            let taken = is_direction(wo) && is_direction(wi) && is_direction(wh);
+            checked(f, &[(5, taken)], 0.0, || f.distribution().g(wo, wi, wh)).put(out)
+        };
+    956 "optics_checked_d" [Wh] + 0 -> 2,
+        |f, w, out| call!(optics_checked_d, f, v3(w)).put(out),
+        |f, w, out| checked(f, &[(5, is_direction(v3(w)))], 0.0, || f.distribution().d(v3(w))).put(out);
+    957 "optics_checked_disney_diffuse" [Cosine, Cosine, Cosine] + 0 -> 2,
+        |f, w, out| call!(optics_checked_disney_diffuse, f, w[0], w[1], w[2]).put(out),
+        |f, w, out| checked(f, &[], 0.0, || f.distribution().disney_diffuse(w[0], w[1], w[2])).put(out);
+    958 "optics_checked_f_at" [Wo, Wh] + 1 -> 2,
+        |f, w, out| call!(optics_checked_f_at, f, v3(w), v3(&w[3..]), w[6]).put(out),
+        |f, w, out| {
+            let (wo, wh) = (v3(w), v3(&w[3..]));
+            let checks = [(5, is_direction(wo) && is_direction(wh)), (4, is_lookup(w[6]))];
+            checked(f, &checks, 0.0, || f.distribution().f_at(wo, wh, w[6])).put(out)
+        };
+    959 "optics_checked_f" [Wo, Wh] + 4 -> 5,
+        |f, w, out| call!(optics_checked_f, f, v3(w), v3(&w[3..]), Color::get(&w[6..])).put(out),
+        |f, w, out| {
+            let (wo, wh) = (v3(w), v3(&w[3..]));
+            let checks = [(5, is_direction(wo) && is_direction(wh)), (4, w[6..10].iter().all(|l| is_lookup(*l)))];
+            checked(f, &checks, Color([0.0; 4]), || {
+                let wls = ColorWavelength { lambda: Color::get(&w[6..]).0 };
+                Color(f.distribution().f(wo, wh, &wls).samples)
+            }).put(out)
+        };
+    960 "optics_checked_sample_normal" [Wo, Disk, Pair] + 0 -> 4,
+        |f, w, out| call!(optics_checked_sample_normal, f, v3(w), w[3], w[4], w[5]).put(out),
+        |f, w, out| {
+            let checks = [(5, is_direction(v3(w))), (6, is_random(w[3])), (7, is_pair(w[4], w[5]))];
+            let random = Random { x: w[3], y: 0.0, c: w[4], s: w[5] };
+            checked(f, &checks, Vec3::ZERO, || f.distribution().sample_normal(v3(w), random)).put(out)
+        };
+    961 "optics_checked_pdf" [Wo, Wi, Flag] + 1 -> 2,
+        |f, w, out| call!(optics_checked_pdf, f, v3(w), v3(&w[3..]), w[6] != 0.0, w[7]).put(out),
+        |f, w, out| {
+            let (wo, wi) = (v3(w), v3(&w[3..]));
+            let checks = [(5, is_direction(wo) && is_direction(wi)), (4, is_wavelength(w[7]))];
+            let wls = ColorWavelength { lambda: [w[7], 0.0, 0.0, 0.0] };
+            finite_only(checked(f, &checks, 0.0, || f.rust().pdf(wo, wi, w[6] != 0.0, &wls))).put(out)
+        };
+    // roughness x, raised, is the one number
+    962 "optics_checked_make_surface" [] + 0 -> 4,
+        |f, _, out| {
+            let m = unsafe { optics_checked_make_surface(f.glass, f.a.x, f.eta.as_ptr(), f.eta.len(), f.k.as_ptr(), f.k.len()) };
+            out.copy_from_slice(&[m.number, m.glass as u64, bits(m.a.x), bits(m.a.y)]);
+        },
+        |f, _, out| out.copy_from_slice(&rust_make_surface(f));
+    963 "optics_checked_reflect" [Wo, Wh] + 0 -> 5,
+        |_, w, out| put_checked(unsafe { optics_checked_reflect(v3(w), v3(&w[3..])) }, out),
+        |_, w, out| {
+            let (wo, n) = (v3(w), v3(&w[3..]));
+            put_outgoing(&[(5, is_direction(wo) && is_direction(n))], || outgoing(util::reflect(wo, n)), out)
+        };
+    964 "optics_checked_refract" [Index, Wo, Wh] + 0 -> 5,
+        |_, w, out| put_checked(unsafe { optics_checked_refract(w[0], v3(&w[1..]), v3(&w[4..])) }, out),
+        |_, w, out| {
+            let (wo, n) = (v3(&w[1..]), v3(&w[4..]));
+            let checks = [(2, within(0.01, 100.0, w[0])), (5, is_direction(wo) && is_direction(n))];
+            put_outgoing(&checks, || rust_refract(w[0], wo, n), out)
+        };
+    // unchecked, on spectra of 95 entries
+    931 "optics_constant_eta" [] + 0 -> 1,
+        |f, _, out| unsafe { optics_constant_eta(taken(f).0.as_ptr(), SAMPLES) }.put(out),
+        |f, _, out| super::numbers::spectrum(taken(f).0).is_constant().put(out);
+    932 "optics_eta_at" [] + 1 -> 1,
+        |f, w, out| unsafe { optics_eta_at(taken(f).0.as_ptr(), SAMPLES, at_hand(w[0])) }.put(out),
+        |f, w, out| super::numbers::spectrum(taken(f).0).sample_one(at_hand(w[0])).put(out);
+    933 "optics_k_at" [] + 1 -> 1,
+        |f, w, out| unsafe { optics_k_at(taken(f).1.as_ptr(), SAMPLES, at_hand(w[0])) }.put(out),
+        |f, w, out| super::numbers::spectrum(taken(f).1).sample_one(at_hand(w[0])).put(out);
+    934 "optics_f" [Wo, Wh] + 4 -> 4,
+        |f, w, out| {
+            let (eta, k) = taken(f);
+            let wls = Color(Color::get(&w[6..]).0.map(at_hand));
+            unsafe { optics_f(eta.as_ptr(), SAMPLES, k.as_ptr(), SAMPLES, v3(w), v3(&w[3..]), wls) }.put(out)
+        },
+        |f, w, out| {
+            let (eta, k) = taken(f);
+            let of = distribution(Vec2::splat(1.0), spectrum_of(eta), spectrum_of(k));
+            let wls = ColorWavelength { lambda: Color::get(&w[6..]).0.map(at_hand) };
+            Color(of.f(v3(w), v3(&w[3..]), &wls).samples).put(out)
+        };
+}
+
+/// Spectra of 95 entries, of any values.
+fn taken<'a>(f: &Fields<'a>) -> (&'a [f64], &'a [f64]) {
+    let or = |v: &'a [f64], w: &'a [f64]| if v.len() == SAMPLES { v } else { w };
+    (or(f.eta, &POOL.etas[0]), or(f.k, &POOL.ks[0]))
+}
+
+/// A wavelength that the Rust takes.
+fn at_hand(l: f64) -> f64 {
+    if is_lookup(l) { l } else { 400.0 }
+}
+
+/// `MicrofacetConfig::new`, whose assertion is the refusal 1.
+fn rust_make_surface(f: &Fields) -> [u64; 4] {
+    let refused = |n| [n, 0, 0, 0];
+    let made = caught(|| {
+        let one = crate::tracer::DenseSpectrum::from_constant;
+        let t = crate::tracer::Texture::default;
+        crate::tracer::microfacet::MicrofacetConfig::new(f.a.x, one(1.0), one(0.0), t(), t(), t()).roughness
+    });
+    let Some(a) = made else { return refused(1) };
+    if eta_refused(f.eta) {
+        return refused(2);
+    }
+    if k_refused(f.glass, f.k) {
+        return refused(3);
+    }
+    [0, f.glass as u64, bits(a.x), bits(a.y)]
+}
+
+fn put_checked(c: CheckedOutgoing, out: &mut [u64]) {
+    out[0] = c.number;
+    out[1] = c.case;
+    c.wi.put(&mut out[2..5]);
+}
+
+fn put_outgoing(checks: &[(u64, bool)], value: impl FnOnce() -> Outgoing, out: &mut [u64]) {
+    out.fill(0);
+    match checks.iter().find(|c| !c.1) {
+        Some((number, _)) => out[0] = *number,
+        None => value().put(&mut out[1..5]),
+    }
+}
+
+pub fn table() -> Vec<Function> {
+    let mut all = functions();
+    for f in &mut all {
+        f.source = Some(source(f.name));
+        f.bench = bench_source(f.name);
+        // `max(x, 0.0)` meets -0 only where one roughness is below 0
+        match f.name {
+            "optics_sample_normal_pdf" | "optics_conductor_pdf" | "optics_dielectric_pdf" => {
+                f.open_zero = true;
+                f.open_at = |w| w[0].is_sign_negative() != w[1].is_sign_negative();
+            }
+            "optics_pdf" => {
+                f.open_zero = true;
+                f.open_at = |w| w[1].is_sign_negative() != w[2].is_sign_negative();
+            }
+            _ => (),
+        }
+    }
+    all.extend(refusing_functions());
+    all.sort_by_key(|f| f.number);
+    all
+}
+
+// ---- the sample: a surface's spectra stand in records before those of its functions
+
+/// The entries of eta and of k where they are others than before.
+pub struct Written {
+    eta: Vec<u64>,
+    k: Vec<u64>,
+}
+
+impl Written {
+    pub fn new() -> Self {
+        Self { eta: vec![], k: vec![] }
+    }
+
+    pub fn write(&mut self, eta: &[f64], k: &[f64], out: &mut String) {
+        fn one(before: &mut Vec<u64>, values: &[f64], number: u32, out: &mut String) {
+            let now: Vec<u64> = values.iter().map(|v| bits(*v)).collect();
+            // the first record of none stands too
+            if *before == now && !now.is_empty() {
+                return;
+            }
+            let constant = now.len() == SAMPLES && now.iter().all(|v| *v == now[0]);
+            record(out, number + constant as u32, if constant { &values[..1] } else { values }, &[]);
+            *before = now;
+        }
+        one(&mut self.eta, eta, 970, out);
+        one(&mut self.k, k, 980, out);
+    }
+}
+
+/// How many surfaces the sample has, and how many inputs each function on each.
+const SAMPLED: usize = 40;
+const ON_EACH: usize = 2;
+
+/// Records of every function: the number, the counts of words, the words in, the Rust's words out.
+pub fn sample(seed: u64) -> String {
+    let mut out = String::new();
+    let (of_surfaces, others): (Vec<Function>, Vec<Function>) = table().into_iter().partition(|f| f.number > 930);
+    for f in &others {
+        f.sample(seed, 60, &mut out);
+    }
+    let rng = &mut Rng(seed);
+    let mut written = Written::new();
+    for at in 0..SAMPLED {
+        let glass = at % 2 == 0;
+        let [mut eta, mut k] = POOL.pick(rng, glass);
+        // every fourth is refused, by a length of at most 99 too
+        match at % 8 {
+            3 => eta = POOL.etas_taken + rng.below(POOL.etas.len() - 1 - POOL.etas_taken),
+            6 => k = POOL.ks_taken + rng.below(POOL.ks.len() - 1 - POOL.ks_taken),
+            _ => (),
+        }
+        written.write(&POOL.etas[eta], &POOL.ks[k], &mut out);
+        for f in &of_surfaces {
+            // these read 95 entries
+            if f.number < 950 && (POOL.etas[eta].len() != SAMPLES || POOL.ks[k].len() != SAMPLES) {
+                continue;
+            }
+            for i in 0..ON_EACH {
+                let mut w = vec![0.0; f.ins()];
+                (f.source.unwrap())(rng, i, &mut w);
+                w[0] = glass as u8 as f64;
+                w[3] = eta as f64;
+                w[4] = k as f64;
+                if f.number < 950 {
+                    w[SURFACE..].iter_mut().rev().take([0, 1, 1, 4][f.number as usize - 931]).for_each(|l| *l = at_hand(*l));
+                }
+                let mut answer = vec![0; f.outs];
+                (f.rust)(&w, &mut answer);
+                w.drain(3..5);
+                record(&mut out, f.number, &w, &answer);
+            }
+        }
+    }
+    out
+}
+
+// ---- for the benchmark: functions of a whole surface, two directions and a wavelength
+
+pub type OfSurface = extern "C-unwind" fn(&Surface, Vec3, Vec3, f64) -> f64;
+
+fn eta_and_k(s: &Surface, wl: f64) -> (f64, f64) {
+    unsafe { (optics_eta_at(s.eta.as_ptr(), SAMPLES, wl), optics_k_at(s.k.as_ptr(), SAMPLES, wl)) }
+}
+
+extern "C-unwind" fn here_f_at(s: &Surface, wo: Vec3, wh: Vec3, wl: f64) -> f64 {
+    let (eta, k) = eta_and_k(s, wl);
+    unsafe { here::optics_f_at(wo, wh, eta, k) }
+}
+
+extern "C-unwind" fn rust_f_at(s: &Surface, wo: Vec3, wh: Vec3, wl: f64) -> f64 {
+    s.distribution().f_at(wo, wh, wl)
+}
+
+extern "C-unwind" fn here_f(s: &Surface, wo: Vec3, wh: Vec3, wl: f64) -> f64 {
+    let wls = Color([wl, 400.0, 512.5, 700.0]);
+    let f = unsafe { optics_f(s.eta.as_ptr(), SAMPLES, s.k.as_ptr(), SAMPLES, wo, wh, wls) };
+    f.0[0] + f.0[1] + f.0[2] + f.0[3]
+}
+
+extern "C-unwind" fn rust_f(s: &Surface, wo: Vec3, wh: Vec3, wl: f64) -> f64 {
+    let wls = ColorWavelength { lambda: [wl, 400.0, 512.5, 700.0] };
+    let f = s.distribution().f(wo, wh, &wls).samples;
+    f[0] + f[1] + f[2] + f[3]
+}
+
+fn here_pdf(s: &Surface, wo: Vec3, wi: Vec3, reflection: bool, wl: f64) -> f64 {
+    let (eta, k) = eta_and_k(s, wl);
+    unsafe { here::optics_pdf(s.glass, s.a, wo, wi, reflection, eta, k) }
+}
+
+fn lumo_pdf(s: &Surface, wo: Vec3, wi: Vec3, reflection: bool, wl: f64) -> f64 {
+    s.rust.as_ref().unwrap().pdf(wo, wi, reflection, &ColorWavelength { lambda: [wl, 0.0, 0.0, 0.0] })
+}
+
+extern "C-unwind" fn here_pdf_reflected(s: &Surface, wo: Vec3, wi: Vec3, wl: f64) -> f64 {
+    here_pdf(s, wo, wi, true, wl)
+}
+
+extern "C-unwind" fn rust_pdf_reflected(s: &Surface, wo: Vec3, wi: Vec3, wl: f64) -> f64 {
+    lumo_pdf(s, wo, wi, true, wl)
+}
+
+extern "C-unwind" fn here_pdf_passed(s: &Surface, wo: Vec3, wi: Vec3, wl: f64) -> f64 {
+    here_pdf(s, wo, -wi, false, wl)
+}
+
+extern "C-unwind" fn rust_pdf_passed(s: &Surface, wo: Vec3, wi: Vec3, wl: f64) -> f64 {
+    lumo_pdf(s, wo, -wi, false, wl)
+}
+
+/// The name, whether the surface is glass, the function here and the Rust's.
+pub fn of_surface_calls() -> Vec<(&'static str, bool, OfSurface, OfSurface)> {
+    vec![
+        ("f_at, real index", true, here_f_at, rust_f_at),
+        ("f_at, complex index", false, here_f_at, rust_f_at),
+        ("f at four wavelengths, real index", true, here_f, rust_f),
+        ("f at four wavelengths, complex index", false, here_f, rust_f),
+        ("density of metal", false, here_pdf_reflected, rust_pdf_reflected),
+        ("density of glass, reflected", true, here_pdf_reflected, rust_pdf_reflected),
+        ("density of glass, passed", true, here_pdf_passed, rust_pdf_passed),
+    ]
+}

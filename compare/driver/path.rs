@@ -1,0 +1,719 @@
+//! The crate `path` beside lumo's `BSDF::sample` and `BxDF::pdf`, with document 01's refusals, weights and
+//! shares written once more from the document: whole bounces, in lists on one path.
+use super::harness::*;
+use super::inputs::{near_unit, Rng};
+use super::numbers::record;
+use super::optics::{caught, Color, Written};
+use super::spectra;
+use super::surfaces::*;
+use crate::stand_in::Random;
+use crate::tracer::bsdf::BSDF;
+use crate::tracer::bxdf::microfacet::util;
+use crate::tracer::onb::Onb;
+use crate::tracer::ColorWavelength;
+use crate::{Vec2, Vec3};
+
+#[derive(Clone, Copy)]
+#[repr(C)]
+pub struct Path {
+    pub lambda: Color,
+    pub power: Color,
+}
+
+#[derive(Clone, Copy)]
+#[repr(C)]
+pub struct Bounce {
+    pub wo: Vec3,
+    pub normal: Vec3,
+    pub backface: bool,
+    pub u: f64,
+    pub disk: f64,
+    pub c: f64,
+    pub s: f64,
+    pub ks: Color,
+    pub tf: Color,
+}
+
+#[derive(Clone, Copy)]
+#[repr(C)]
+pub struct Density {
+    pub finite: bool,
+    pub value: f64,
+}
+
+#[derive(Clone, Copy)]
+#[repr(C)]
+pub struct Shares {
+    pub there: bool,
+    pub reflected: f64,
+    pub passed: f64,
+}
+
+pub const REFUSED: u64 = 0;
+pub const LOST: u64 = 1;
+pub const REFLECTED: u64 = 2;
+pub const PASSED: u64 = 3;
+
+/// What a bounce answers: document 01's number, 0 where it isn't refused; the case; what it carries.
+#[derive(Clone, Copy)]
+#[repr(C)]
+pub struct Bounced {
+    pub number: u64,
+    pub case: u64,
+    pub wi: Vec3,
+    pub density: Density,
+    pub shares: Shares,
+    pub path: Path,
+}
+
+#[derive(Clone, Copy)]
+#[repr(C)]
+struct Started {
+    number: u64,
+    path: Path,
+}
+
+extern "C" {
+    fn path_start(lambda: Color) -> Started;
+    fn path_bounce(path: Path, glass: bool, a: Vec2, eta: *const f64, n: usize, k: *const f64, m: usize, b: Bounce) -> Bounced;
+}
+
+/// How many words an answer has, and a bounce without its surface.
+pub const OUTS: usize = 18;
+pub const INS: usize = 8 + 19;
+
+impl Bounced {
+    pub fn words(&self) -> [u64; OUTS] {
+        let mut out = [0; OUTS];
+        out[0] = self.number;
+        out[1] = self.case;
+        self.wi.put(&mut out[2..5]);
+        out[5] = self.density.finite as u64;
+        out[6] = bits(self.density.value);
+        out[7] = self.shares.there as u64;
+        out[8] = bits(self.shares.reflected);
+        out[9] = bits(self.shares.passed);
+        self.path.lambda.put(&mut out[10..14]);
+        self.path.power.put(&mut out[14..18]);
+        out
+    }
+}
+
+/// The path's words, then the bounce's.
+pub fn words_in(p: &Path, b: &Bounce) -> [f64; INS] {
+    let mut w = [0.0; INS];
+    w[0..4].copy_from_slice(&p.lambda.0);
+    w[4..8].copy_from_slice(&p.power.0);
+    w[8..14].copy_from_slice(&[b.wo.x, b.wo.y, b.wo.z, b.normal.x, b.normal.y, b.normal.z]);
+    w[14] = b.backface as u8 as f64;
+    w[15..19].copy_from_slice(&[b.u, b.disk, b.c, b.s]);
+    w[19..23].copy_from_slice(&b.ks.0);
+    w[23..27].copy_from_slice(&b.tf.0);
+    w
+}
+
+pub fn here(p: &Path, s: &Surface, b: &Bounce) -> Bounced {
+    unsafe { path_bounce(*p, s.glass, s.a, s.eta.as_ptr(), s.eta.len(), s.k.as_ptr(), s.k.len(), *b) }
+}
+
+// ---- document 01, once more
+
+fn shares_hold(a: &Color) -> bool {
+    a.0.iter().all(|x| within(0.0, 1.0, *x))
+}
+
+/// 0 where the bounce is accepted.
+pub fn refused(p: &Path, s: &Surface, b: &Bounce) -> u64 {
+    let surface = surface_refused(s.glass, s.a, &s.eta, &s.k);
+    if surface != 0 {
+        return surface;
+    }
+    let wavelengths = is_wavelength(p.lambda.0[0]) && p.lambda.0[1..].iter().all(|l| is_lookup(*l));
+    let checks = [
+        (4, wavelengths),
+        (10, shares_hold(&p.power)),
+        (5, is_direction(b.wo)),
+        (5, is_direction(b.normal)),
+        (6, is_random(b.u)),
+        (6, is_random(b.disk)),
+        (7, is_pair(b.c, b.s)),
+        (8, shares_hold(&b.ks)),
+        (8, shares_hold(&b.tf)),
+    ];
+    checks.iter().find(|c| !c.1).map_or(0, |c| c.0)
+}
+
+const NO_DENSITY: Density = Density { finite: false, value: 0.0 };
+const NO_SHARES: Shares = Shares { there: false, reflected: 0.0, passed: 0.0 };
+
+fn random_of(b: &Bounce) -> Random {
+    Random { x: b.disk, y: 0.0, c: b.c, s: b.s }
+}
+
+/// lumo's surface twice: its `BSDF` hands out no `BxDF`.
+pub struct Lumo {
+    pub surface: Surface,
+    bsdf: Option<BSDF>,
+}
+
+impl Lumo {
+    pub fn new(glass: bool, a: Vec2, eta: &[f64], k: &[f64]) -> Self {
+        Self { surface: Surface::new(glass, a, eta, k), bsdf: Surface::new(glass, a, eta, k).rust.map(BSDF::new) }
+    }
+}
+
+/// The bounce by lumo's sampler and density, and by 01's rules.
+pub fn rust(p: &Path, of: &Lumo, b: &Bounce) -> Bounced {
+    let s = &of.surface;
+    let number = refused(p, s, b);
+    if number != 0 {
+        return Bounced { number, case: REFUSED, wi: Vec3::ZERO, density: NO_DENSITY, shares: NO_SHARES, path: *p };
+    }
+    let bxdf = s.rust.as_ref().unwrap();
+    let of_facets = s.distribution();
+
+    // the sampler, which ends wavelengths
+    let mut lambda = ColorWavelength { lambda: p.lambda.0 };
+    let world = of.bsdf.as_ref().unwrap().sample(b.wo, b.normal, b.backface, &mut lambda, b.u, random_of(b));
+    let ended = s.glass && !of_facets.constant_eta();
+    let left = if ended { [p.lambda.0[0], 0.0, 0.0, 0.0] } else { p.lambda.0 };
+    assert_eq!(left.map(f64::to_bits), lambda.lambda.map(f64::to_bits), "the wavelengths that lumo ends");
+
+    // the same on local directions
+    let uvw = Onb::new(b.normal);
+    let wo = uvw.to_local(b.wo);
+    let local = bxdf.sample(wo, b.backface, &mut ColorWavelength { lambda: p.lambda.0 }, b.u, random_of(b));
+    assert_eq!(world.is_some(), local.is_some(), "lumo's two samplers");
+
+    // the facet's normal, and the shares at the leading wavelength
+    let wl = left[0];
+    let eta = of_facets.eta_at(wl);
+    let one_direction = of_facets.is_delta() || s.glass && eta == 1.0;
+    let wh = if one_direction { Vec3::Z } else { of_facets.sample_normal(wo, random_of(b)) };
+    let share = of_facets.f_at(wo, wh, wl);
+    let shares = if s.glass { Shares { there: true, reflected: share, passed: 1.0 - share } } else { NO_SHARES };
+
+    let powers = |weights: [f64; 4]| Path {
+        lambda: Color(left),
+        power: Color(std::array::from_fn(|i| p.power.0[i] * weights[i])),
+    };
+    let (Some(world), Some(wi)) = (world, local) else {
+        return Bounced { number: 0, case: LOST, wi: Vec3::ZERO, density: NO_DENSITY, shares, path: powers([0.0; 4]) };
+    };
+    let reflection = !s.glass || b.u < share / (share + (1.0 - share));
+    let density = bxdf.pdf(wo, wi, reflection, &lambda);
+    let density = if density.is_finite() { Density { finite: true, value: density } } else { NO_DENSITY };
+
+    // the weights
+    let q = if one_direction {
+        1.0
+    } else {
+        let g1 = of_facets.g1(wo, wh);
+        if g1 == 0.0 { 0.0 } else { of_facets.g(wo, wi, wh) / g1 }
+    };
+    let weight = |i: usize| {
+        let wl = left[i];
+        if wl == 0.0 {
+            0.0
+        } else if s.glass {
+            let filter = if reflection { b.ks.0[i] } else { b.tf.0[i] };
+            filter * q
+        } else {
+            let f = of_facets.f_at(wo, wh, wl);
+            let m = if f.is_nan() {
+                0.0
+            } else if f <= 1.0 {
+                f
+            } else {
+                1.0
+            };
+            (b.ks.0[i] * m) * q
+        }
+    };
+    Bounced {
+        number: 0,
+        case: if reflection { REFLECTED } else { PASSED },
+        wi: world,
+        density,
+        shares,
+        path: powers(std::array::from_fn(weight)),
+    }
+}
+
+// ---- inputs
+
+fn v(x: u64, y: u64, z: u64) -> Vec3 {
+    Vec3::new(f64::from_bits(x), f64::from_bits(y), f64::from_bits(z))
+}
+
+const ONES: Color = Color([1.0; 4]);
+
+/// Surfaces: the first are those of the samples of document 01 and of known edges.
+pub fn surfaces(rng: &mut Rng, count: usize) -> Vec<Lumo> {
+    let all = |x: f64| vec![x; 95];
+    let smooth = Vec2::splat(1e-5);
+    let mut out = vec![
+        Lumo::new(false, smooth, &all(1.0), &all(2.0)),
+        Lumo::new(true, smooth, &all(3.0), &all(0.0)),
+        Lumo::new(true, Vec2::splat(1.0), &all(1f64.next_up()), &all(0.0)),
+        Lumo::new(true, Vec2::splat(0.5), &all(0.75), &all(0.0)),
+        Lumo::new(false, Vec2::splat(1.0), &all(1.0), &all(2.0)),
+    ];
+    while out.len() < count {
+        let glass = rng.below(2) == 0;
+        let [mut eta, mut k] = POOL.pick(rng, glass);
+        // one in twelve may be refused
+        match rng.below(24) {
+            0 => eta = rng.below(POOL.etas.len()),
+            1 => k = rng.below(POOL.ks.len()),
+            _ => (),
+        }
+        let mut a = roughness(rng);
+        if rng.below(24) == 0 {
+            a[rng.below(2)] = [1e-5f64.next_down(), 1f64.next_up(), 0.0, f64::NAN, -1e-9][rng.below(5)];
+        }
+        out.push(Lumo::new(glass, Vec2::new(a[0], a[1]), &POOL.etas[eta], &POOL.ks[k]));
+    }
+    out
+}
+
+/// Bounces at known edges, each with the index of its surface.
+fn special(i: usize) -> Option<(usize, Bounce)> {
+    let plain = |wo, u, disk, c, s| Bounce { wo, normal: Vec3::Z, backface: false, u, disk, c, s, ks: ONES, tf: ONES };
+    Some(match i {
+        // metal, delta: powers 0.5, then 0.25
+        0 | 1 => (0, plain(Vec3::Z, 0.0, 0.0, 1.0, 0.0)),
+        // glass, delta, index 3
+        2 => (1, plain(Vec3::Z, 0.2, 0.0, 1.0, 0.0)),
+        3 => (1, plain(Vec3::Z, 0.25, 0.0, 1.0, 0.0)),
+        // a density that isn't finite
+        4 => (2, plain(v(0x3fea000000000000, 0, 0x3fe2a79e3a2cd2e6), 0.5, 0.0, 1.0, 0.0)),
+        // a passed direction whose z is 0, with q 1
+        5 => (3, plain(v(0x3fef169f5e2a60b5, 0x3f9080a621a05426, 0x3fce43c94cc41490), 1f64.next_down(), f64::from_bits(0x3fbd88ac158e3ce7), 0.0, -1.0)),
+        // an infinite lambda
+        6 => (4, plain(v(0x3fe6a09efe58d70a, 0x3fe6a09efe58d70a, 0x1ff000000006c32e), 0.5, 0.5, 1.0, 0.0)),
+        // a filter of -0
+        7 => (0, Bounce { ks: Color([-0.0, 1.0, -0.0, 0.5]), ..plain(Vec3::Z, 0.0, 0.0, 1.0, 0.0) }),
+        8 => (1, Bounce { tf: Color([-0.0, 1.0, -0.0, 0.5]), ..plain(Vec3::Z, 0.9, 0.0, 1.0, 0.0) }),
+        // backfaces
+        9 => (0, Bounce { backface: true, ..plain(Vec3::Z, 0.0, 0.0, 1.0, 0.0) }),
+        10 => (1, Bounce { backface: true, ..plain(Vec3::Z, 0.2, 0.0, 1.0, 0.0) }),
+        _ => return None,
+    })
+}
+
+/// What the samples of document 01 among them answer: the case, the density, the leading power.
+const SAMPLES: [(u64, f64, f64); 4] = [(REFLECTED, 1.0, 0.5), (REFLECTED, 1.0, 0.25), (REFLECTED, 0.25, 0.25), (PASSED, 0.75, 0.25)];
+
+fn four(rng: &mut Rng, one: impl Fn(&mut Rng) -> f64) -> Color {
+    Color(std::array::from_fn(|_| one(rng)))
+}
+
+fn filter(rng: &mut Rng) -> Color {
+    match rng.below(24) {
+        0..=7 => ONES,
+        8 => four(rng, |rng| [0.0, -0.0, 1.0, f64::from_bits(1), 1f64.next_down(), 1e-300][rng.below(6)]),
+        _ => four(rng, |rng| rng.unit()),
+    }
+}
+
+/// The path that a list starts from: mostly one that is accepted, with powers 1.0.
+pub fn start(rng: &mut Rng) -> Path {
+    let mut lambda = four(rng, |rng| loop {
+        let l = spectra::wavelength(rng);
+        if l != 0.0 {
+            return l;
+        }
+    });
+    match rng.below(16) {
+        0..=2 => lambda.0[1 + rng.below(3)] = 0.0 * rng.sign(),
+        3 => lambda.0[1..].fill(0.0),
+        4 => lambda = Color([lambda.0[0]; 4]),
+        5 if rng.below(4) == 0 => lambda.0[rng.below(4)] = spectra::any_wavelength(rng, rng.0 as usize % 200),
+        _ => (),
+    }
+    let power = match rng.below(16) {
+        0 => four(rng, |rng| [0.0, -0.0, 1.0, f64::from_bits(1), 1e-300, 0.5][rng.below(6)]),
+        1 => four(rng, |rng| rng.unit()),
+        2 if rng.below(4) == 0 => four(rng, |rng| if rng.below(4) == 0 { any(rng) } else { 1.0 }),
+        _ => ONES,
+    };
+    Path { lambda, power }
+}
+
+/// A bounce; `on` is the direction that light came from, where there is one.
+pub fn bounce(rng: &mut Rng, p: &Path, of: &Lumo, on: Option<Vec3>) -> Bounce {
+    let axis = [Vec3::Z, Vec3::X, Vec3::Y, -Vec3::Z];
+    let normal = match rng.below(4) {
+        0 => axis[rng.below(4)],
+        1 => Vec3::Z,
+        _ => {
+            let n = near_unit(rng);
+            let n = Vec3::new(n[0], n[1], n[2]);
+            if is_direction(n) { n } else { n.normalize() }
+        }
+    };
+    let local = direction(rng);
+    let mut wo = match rng.below(4) {
+        0 => local,
+        1 if on.is_some() => on.unwrap(),
+        _ => Onb::new(normal).to_world(local),
+    };
+    // most of metal is lit from its front
+    if !of.surface.glass && rng.below(4) != 0 && wo.dot(normal) < 0.0 {
+        wo = -wo;
+    }
+    let [c, s] = circle_pair(rng);
+    let mut b = Bounce {
+        wo,
+        normal,
+        backface: rng.below(8) == 0,
+        u: random_number(rng),
+        disk: random_number(rng),
+        c,
+        s,
+        ks: filter(rng),
+        tf: filter(rng),
+    };
+    // the number beside the share that is reflected
+    if of.surface.glass && rng.below(6) == 0 && refused(p, &of.surface, &b) == 0 {
+        let share = rust(p, of, &b).shares.reflected;
+        b.u = [share, share.next_up(), share.next_down(), 1.0 - share][rng.below(4)];
+    }
+    // one in ten has an argument that may be refused
+    if rng.below(10) == 0 {
+        let x = any(rng);
+        match rng.below(12) {
+            0 => b.wo.x = x,
+            1 => b.wo.z = x,
+            2 => b.normal.y = x,
+            3 => b.normal.z = x,
+            4 => b.u = x,
+            5 => b.disk = x,
+            6 => b.c = x,
+            7 => b.s = x,
+            8 => b.ks.0[rng.below(4)] = x,
+            9 => b.tf.0[rng.below(4)] = x,
+            10 => b.wo = b.wo * [0.9999995f64.next_down(), 1.0000005, 0.9999994, 1.0000006][rng.below(4)],
+            _ => b.u = [1.0, 1f64.next_down(), -0.0, f64::NAN, -f64::from_bits(1)][rng.below(5)],
+        }
+    }
+    b
+}
+
+/// The next bounce of a list and the index of its surface. Light that is lost leaves no power for those after
+/// it, so most of the bounces that lose it make room for others.
+pub fn next_bounce(rng: &mut Rng, p: &Path, of: &[Lumo], on: Option<Vec3>) -> (usize, Bounce) {
+    loop {
+        let which = rng.below(of.len());
+        let b = bounce(rng, p, &of[which], on);
+        if rng.below(6) == 0 || caught(|| rust(p, &of[which], &b)).is_none_or(|a| a.case != LOST) {
+            return (which, b);
+        }
+    }
+}
+
+// ---- the comparison
+
+#[derive(Default)]
+struct Counts {
+    bounces: usize,
+    lists: usize,
+    differences: usize,
+    refused: [usize; 11],
+    lost_metal: usize,
+    lost_glass: usize,
+    reflected: [usize; 2],
+    passed: usize,
+    not_finite: usize,
+    /// After a direction, leading powers that are 0, and others.
+    powers: [usize; 2],
+}
+
+impl Counts {
+    fn count(&mut self, of: &Lumo, a: &Bounced) {
+        self.bounces += 1;
+        match a.case {
+            REFUSED => self.refused[a.number as usize] += 1,
+            LOST if of.surface.glass => self.lost_glass += 1,
+            LOST => self.lost_metal += 1,
+            REFLECTED => self.reflected[of.surface.glass as usize] += 1,
+            _ => self.passed += 1,
+        }
+        if a.case >= REFLECTED {
+            self.not_finite += !a.density.finite as usize;
+            self.powers[0] += (a.path.power.0[0] == 0.0) as usize;
+            self.powers[1] += (a.path.power.0[0] != 0.0) as usize;
+        }
+    }
+}
+
+fn report(p: &Path, of: &Lumo, b: &Bounce, here: &Bounced, rust: Option<&Bounced>) {
+    let s = &of.surface;
+    println!("  path_bounce, {}, roughness {}", if s.glass { "glass" } else { "metal" }, hex_floats(&[s.a.x, s.a.y]));
+    println!("    eta {}\n    k   {}", hex_floats(&s.eta), hex_floats(&s.k));
+    println!("    in  {}", hex_floats(&words_in(p, b)));
+    println!("    here {}", hex(&here.words()));
+    match rust {
+        Some(rust) => println!("    rust {}", hex(&rust.words())),
+        None => println!("    rust panics"),
+    }
+}
+
+fn compare_start(seed: u64, count: usize) -> usize {
+    let rng = &mut Rng(seed ^ 0x57a7);
+    let mut differences = 0;
+    for i in 0..count {
+        let lambda = match rng.below(4) {
+            0 => four(rng, |rng| spectra::wavelength(rng)),
+            1 => {
+                let mut l = four(rng, |rng| rng.between(360.0, 830.0));
+                l.0[rng.below(4)] = spectra::any_wavelength(rng, i);
+                l
+            }
+            _ => start(rng).lambda,
+        };
+        let here = unsafe { path_start(lambda) };
+        // every wavelength of 360 to 830, where lumo's lookup takes it and it isn't 0
+        let taken = lambda.0.iter().all(|l| is_wavelength(*l));
+        let rust = if taken {
+            (0, lambda, ONES)
+        } else {
+            (4, Color([0.0; 4]), Color([0.0; 4]))
+        };
+        let same = |a: &Color, b: &Color| a.0.iter().zip(b.0).all(|(x, y)| bits(*x) == bits(y));
+        if here.number != rust.0 || !same(&here.path.lambda, &rust.1) || !same(&here.path.power, &rust.2) {
+            differences += 1;
+            if differences <= 3 {
+                println!("  path_start\n    in  {}\n    here {} rust {}", hex_floats(&lambda.0), here.number, rust.0);
+            }
+        }
+    }
+    println!("{:<44} {count:>9} inputs {differences:>6} differences", "path_start");
+    differences
+}
+
+pub fn compare(seed: u64, count: usize) -> usize {
+    let starts = compare_start(seed, count);
+    let bounces = count * 5;
+    let rng = &mut Rng(seed ^ 0x9a7b);
+    let mut c = Counts::default();
+    let mut of = surfaces(rng, 64);
+    while c.bounces < bounces {
+        // other surfaces every so often
+        if c.lists % 256 == 255 {
+            of = surfaces(rng, 64);
+        }
+        let mut p = start(rng);
+        if c.lists == 0 {
+            p = Path { lambda: Color([400.0, 500.0, 600.0, 700.0]), power: ONES };
+        }
+        let length = if c.lists == 0 { 12 } else { 1 + rng.below(64) };
+        let mut on = None;
+        for at in 0..length {
+            let (which, b) = match if c.lists == 0 { special(at) } else { None } {
+                Some(of) => of,
+                None => {
+                    next_bounce(rng, &p, &of, on)
+                }
+            };
+            let l = &of[which];
+            let a = here(&p, &l.surface, &b);
+            let r = caught(|| rust(&p, l, &b));
+            if r.is_none_or(|r| r.words() != a.words()) {
+                c.differences += 1;
+                if c.differences <= 3 {
+                    report(&p, l, &b, &a, r.as_ref());
+                }
+            }
+            // document 01's own numbers
+            if c.lists == 0 && at < SAMPLES.len() {
+                let (case, density, power) = SAMPLES[at];
+                assert!(a.case == case && a.density.value == density && a.path.power.0[0] == power, "sample {at} of document 01");
+            }
+            if c.lists == 0 && (at == 4 || at == 5) {
+                let z = a.wi.z.to_bits();
+                assert!(a.case == PASSED && if at == 4 { !a.density.finite } else { z << 1 == 0 }, "edge {at}");
+            }
+            c.count(l, &a);
+            on = (a.case >= REFLECTED).then_some(-a.wi);
+            p = a.path;
+            // little is seen of a path without power
+            if c.lists > 0 && p.power.0[0] == 0.0 && rng.below(4) == 0 {
+                break;
+            }
+        }
+        c.lists += 1;
+    }
+    println!("{:<44} {:>9} bounces {:>5} differences, in {} lists", "path_bounce", c.bounces, c.differences, c.lists);
+    println!(
+        "  refused {} (by number {:?}), lost {} on metal and {} on glass, reflected {} by metal and {} by glass, passed {}",
+        c.refused.iter().sum::<usize>(), &c.refused[1..], c.lost_metal, c.lost_glass, c.reflected[0], c.reflected[1], c.passed
+    );
+    println!("  density not finite {}; leading power after a direction 0 {}, else {}", c.not_finite, c.powers[0], c.powers[1]);
+    starts + c.differences
+}
+
+// ---- the sample: a record for each bounce of a list, with the path before it
+
+const LISTS: usize = 64;
+const LONGEST: usize = 20;
+
+pub fn sample(seed: u64) -> String {
+    let mut out = String::new();
+    let rng = &mut Rng(seed ^ 0x5a3);
+    let mut written = Written::new();
+    let of = surfaces(rng, 48);
+    for list in 0..LISTS {
+        let mut p = if list == 0 { Path { lambda: Color([400.0, 500.0, 600.0, 700.0]), power: ONES } } else { start(rng) };
+        let length = if list == 0 { 11 } else { 1 + rng.below(LONGEST) };
+        let mut on = None;
+        // a list has two surfaces of its own, so that few spectra are written
+        let own = [rng.below(of.len()), rng.below(of.len())];
+        for at in 0..length {
+            let (which, b) = match if list == 0 { special(at) } else { None } {
+                Some(of) => of,
+                None => {
+                    let which = own[(at % 8 > 5) as usize];
+                    let one = std::slice::from_ref(&of[which]);
+                    (which, next_bounce(rng, &p, one, on).1)
+                }
+            };
+            let s = &of[which].surface;
+            // a record has at most 99 entries
+            if s.eta.len() > 99 || s.k.len() > 99 {
+                continue;
+            }
+            let a = rust(&p, &of[which], &b);
+            written.write(&s.eta, &s.k, &mut out);
+            let mut ins = vec![s.glass as u8 as f64, s.a.x, s.a.y];
+            ins.extend(words_in(&p, &b));
+            record(&mut out, 990, &ins, &a.words());
+            on = (a.case >= REFLECTED).then_some(-a.wi);
+            p = a.path;
+        }
+    }
+    out
+}
+
+// ---- for the benchmark
+
+/// A whole checked bounce as one writes it in Rust on lumo's functions, with nothing computed twice but what
+/// these compute twice.
+#[inline(never)]
+pub extern "C-unwind" fn plain(p: Path, s: &Surface, b: Bounce) -> Bounced {
+    let number = refused(&p, s, &b);
+    if number != 0 {
+        return Bounced { number, case: REFUSED, wi: Vec3::ZERO, density: NO_DENSITY, shares: NO_SHARES, path: p };
+    }
+    let bxdf = s.rust.as_ref().unwrap();
+    let of_facets = s.distribution();
+    let uvw = Onb::new(b.normal);
+    let wo = uvw.to_local(b.wo);
+    let mut lambda = ColorWavelength { lambda: p.lambda.0 };
+    let lost = |lambda: &ColorWavelength, shares| Bounced {
+        number: 0,
+        case: LOST,
+        wi: Vec3::ZERO,
+        density: NO_DENSITY,
+        shares,
+        path: Path { lambda: Color(lambda.lambda), power: Color(p.power.0.map(|x| x * 0.0)) },
+    };
+    let (wh, sampled, reflection, shares, one_direction);
+    if s.glass {
+        let wl = if of_facets.constant_eta() { lambda.lambda[0] } else { lambda.terminate() };
+        let eta = of_facets.eta_at(wl);
+        one_direction = eta == 1.0 || of_facets.is_delta();
+        wh = if one_direction { Vec3::Z } else { of_facets.sample_normal(wo, random_of(&b)) };
+        let share = of_facets.f_at(wo, wh, wl);
+        let rest = 1.0 - share;
+        shares = Shares { there: true, reflected: share, passed: rest };
+        reflection = b.u < share / (share + rest);
+        sampled = if reflection { util::reflect(wo, wh) } else { util::refract(eta, wo, wh) };
+    } else {
+        shares = NO_SHARES;
+        if b.backface {
+            return lost(&lambda, shares);
+        }
+        one_direction = of_facets.is_delta();
+        reflection = true;
+        if one_direction {
+            wh = Vec3::Z;
+            sampled = Some(Vec3::new(-wo.x, -wo.y, wo.z));
+        } else {
+            wh = of_facets.sample_normal(wo, random_of(&b));
+            sampled = util::reflect(wo, wh);
+        }
+    }
+    let Some(wi) = sampled else {
+        return lost(&lambda, shares);
+    };
+    let density = bxdf.pdf(wo, wi, reflection, &lambda);
+    let density = if density.is_finite() { Density { finite: true, value: density } } else { NO_DENSITY };
+    let q = if one_direction {
+        1.0
+    } else {
+        let g1 = of_facets.g1(wo, wh);
+        if g1 == 0.0 { 0.0 } else { of_facets.g(wo, wi, wh) / g1 }
+    };
+    let filter = if reflection { &b.ks } else { &b.tf };
+    let mut power = [0.0; 4];
+    for i in 0..4 {
+        let wl = lambda.lambda[i];
+        let weight = if wl == 0.0 {
+            0.0
+        } else if s.glass {
+            filter.0[i] * q
+        } else {
+            let f = of_facets.f_at(wo, wh, wl);
+            filter.0[i] * if f.is_nan() { 0.0 } else { f.min(1.0) } * q
+        };
+        power[i] = p.power.0[i] * weight;
+    }
+    Bounced {
+        number: 0,
+        case: if reflection { REFLECTED } else { PASSED },
+        wi: uvw.to_world(wi),
+        density,
+        shares,
+        path: Path { lambda: Color(lambda.lambda), power: Color(power) },
+    }
+}
+
+/// The same through the static library.
+#[inline(never)]
+pub extern "C-unwind" fn checked_bounce(p: Path, s: &Surface, b: Bounce) -> Bounced {
+    here(&p, s, &b)
+}
+
+pub type BounceCall = extern "C-unwind" fn(Path, &Surface, Bounce) -> Bounced;
+
+/// A surface as a renderer has it.
+pub fn usual_surface(rng: &mut Rng, glass: bool, rough: bool, varying: bool) -> Surface {
+    let a = if rough { rng.between(0.05, 0.8) } else { 1e-5 };
+    let step = if varying { 0.001 } else { 0.0 };
+    let eta: Vec<f64> = (0..95).map(|i| 1.5 + step * i as f64).collect();
+    let k: Vec<f64> = (0..95).map(|i| if glass { 0.0 } else { 2.0 + 0.01 * i as f64 }).collect();
+    Surface::new(glass, Vec2::splat(a), &eta, &k)
+}
+
+pub fn usual_path(rng: &mut Rng) -> Path {
+    Path { lambda: four(rng, |rng| rng.between(360.0, 830.0)), power: ONES }
+}
+
+pub fn usual_bounce(rng: &mut Rng) -> Bounce {
+    let n = Vec3::new(rng.between(-1.0, 1.0), rng.between(-1.0, 1.0), rng.between(-1.0, 1.0)).normalize();
+    let w = Vec3::new(rng.between(-1.0, 1.0), rng.between(-1.0, 1.0), rng.between(0.05, 1.0)).normalize();
+    let theta = rng.between(0.0, std::f64::consts::TAU);
+    Bounce {
+        wo: Onb::new(n).to_world(w),
+        normal: n,
+        backface: false,
+        u: rng.unit(),
+        disk: rng.unit(),
+        c: theta.cos(),
+        s: theta.sin(),
+        ks: ONES,
+        tf: ONES,
+    }
+}

@@ -1,0 +1,18 @@
+-- `numbers_checked_sin2_theta` meets its contract: the answer's layout, and the answer.
+use borrow.Author.Needs.{needs}
+use mathlib.Core.Path.{_∙_, ap}
+use Rattle.compare.specs.Results.{floatResult}
+use Rattle.compare.proofs.checked.numbers_checked_sin2_theta.Statement.{statement}
+use Rattle.compare.proofs.checked.numbers_checked_sin2_theta.Tie as tie
+
+sin2-theta-requires : tie.Need-sin2-theta-requires
+sin2-theta-requires c κs = search needs
+
+of-float-requires : tie.Need-of-float-requires
+of-float-requires c κs = search needs
+
+returns : tie.Need-returns
+returns c = c .of-float .ensures ∙ ap floatResult (c .before .sin2-theta .ensures)
+
+pub numbers-checked-sin2-theta-spec : {M : Type 1} → statement M
+numbers-checked-sin2-theta-spec = tie.close (tie.spec sin2-theta-requires of-float-requires returns)

@@ -1,0 +1,18 @@
+-- `numbers_checked_to_world` meets its contract: the answer's layout, and the answer.
+use borrow.Author.Needs.{needs}
+use mathlib.Core.Path.{_∙_, ap}
+use Rattle.compare.specs.Results.{vec3Result}
+use Rattle.compare.proofs.checked.numbers_checked_to_world.Statement.{statement}
+use Rattle.compare.proofs.checked.numbers_checked_to_world.Tie as tie
+
+to-world-requires : tie.Need-to-world-requires
+to-world-requires c κs = search needs
+
+of-vec3-requires : tie.Need-of-vec3-requires
+of-vec3-requires c κs = search needs
+
+returns : tie.Need-returns
+returns c = c .of-vec3 .ensures ∙ ap vec3Result (c .before .to-world .ensures)
+
+pub numbers-checked-to-world-spec : {M : Type 1} → statement M
+numbers-checked-to-world-spec = tie.close (tie.spec to-world-requires of-vec3-requires returns)
