@@ -1,0 +1,57 @@
+-- `numbers` is safe and ends: the index stays below the number of places, which a store leaves as it is.
+use mathlib.Core.Path.{_≡_, refl, _∙_}
+use Prim.Native.Nat.{_-_}
+use lib.ListN.{length, length-set}
+use native.Mathlib.Omega.{arith}
+use borrow.Author.Needs.{needs}
+use Rattle.rays.proofs.line.numbers.Statement.{statement}
+use Rattle.rays.proofs.line.numbers.Tie as tie
+
+abbrev Inv-loop : tie.InvT-loop
+Inv-loop text values₀ now₀ i₀ values now i = length values ≡ length values₀
+
+abbrev μ-loop : tie.MeasureT-loop
+μ-loop text values₀ now₀ i₀ values now i = length values₀ - i
+
+loop-holds : tie.Need-loop-holds Inv-loop μ-loop
+loop-holds c = refl
+
+number-requires : tie.Need-number-requires Inv-loop μ-loop
+number-requires c κs = tt
+
+mul-values : tie.Need-mul-values Inv-loop μ-loop
+mul-values c = search needs
+
+slice-write-values : tie.Need-slice-write-values Inv-loop μ-loop
+slice-write-values c = omega arith
+
+add-i : tie.Need-add-i Inv-loop μ-loop
+add-i c = omega arith
+
+loop-less : tie.Need-loop-less Inv-loop μ-loop
+loop-less c = omega (arith, c .before .before .before .loop .inv)
+
+loop-again : tie.Need-loop-again Inv-loop μ-loop
+loop-again c = length-set (c .before .before .before .loop .values) (c .before .before .before .loop .i) (c .before .number .result .value) ∙ c .before .before .before .loop .inv
+
+same-length : tie.Need-same-length Inv-loop μ-loop
+same-length c = c .before .loop .inv
+
+returns : tie.Need-returns Inv-loop μ-loop
+returns c = tt
+
+pub numbers-spec : {M : Type 1} → statement M
+numbers-spec =
+    tie.close
+    (tie.spec
+    Inv-loop
+    μ-loop
+    loop-holds
+    number-requires
+    mul-values
+    slice-write-values
+    add-i
+    loop-less
+    loop-again
+    same-length
+    returns)
