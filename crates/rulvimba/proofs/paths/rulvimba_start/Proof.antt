@@ -1,0 +1,42 @@
+-- `rulvimba::paths::rulvimba_start` meets its contract: by the cases of the start.
+use mathlib.Core.Path.{refl}
+use borrow.Author.Needs.{needs}
+use Rattle.path.specs.Answer.{started}
+use Rattle.rulvimba.specs.Paths.{startNumber, pathStarted}
+use Rattle.rulvimba.proofs.paths.rulvimba_start.Statement.{statement}
+use Rattle.rulvimba.proofs.paths.rulvimba_start.Tie as tie
+
+start-requires : tie.Need-start-requires
+start-requires c κs = search needs
+
+enum-known-why : tie.Need-enum-known-why
+enum-known-why c = search needs
+
+number-requires : tie.Need-number-requires
+number-requires c κs = search needs
+
+enum-known-made : tie.Need-enum-known-made
+enum-known-made c = search needs
+
+store-requires : tie.Need-store-requires
+store-requires c κs = search needs
+
+returns : tie.Need-returns
+unfolding startNumber pathStarted started
+returns c = rw (← c .before .before .before .before .start .ensures, c .before .before .why .given .1) (c .number .ensures, refl)
+
+returns-2 : tie.Need-returns-2
+unfolding startNumber pathStarted started
+returns-2 c = rw (← c .before .before .before .before .before .start .ensures, c .before .before .before .made .given .1) (refl, c .store .ensures)
+
+pub rulvimba-start-spec : {M : Type 1} → statement M
+rulvimba-start-spec =
+    tie.close
+    (tie.spec
+    start-requires
+    enum-known-why
+    number-requires
+    enum-known-made
+    store-requires
+    returns
+    returns-2)

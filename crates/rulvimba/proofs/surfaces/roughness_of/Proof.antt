@@ -1,0 +1,20 @@
+-- `rulvimba::surfaces::roughness_of` meets its contract: by the test of the kind's number.
+use borrow.Author.Tests.{le-leb, lt-leb}
+use borrow.Author.Needs.{needs}
+use Rattle.rulvimba.specs.Surfaces.{roughnessOf}
+use Rattle.rulvimba.proofs.surfaces.roughness_of.Statement.{statement}
+use Rattle.rulvimba.proofs.surfaces.roughness_of.Tie as tie
+
+returns : tie.Need-returns
+unfolding roughnessOf
+returns c = rw (le-leb _ _ (c .if1 .taken))
+
+nan-requires : tie.Need-nan-requires
+nan-requires c κs = search needs
+
+returns-2 : tie.Need-returns-2
+unfolding roughnessOf
+returns-2 c = rw (lt-leb _ _ (c .before .if1 .left), ← c .nan .ensures)
+
+pub roughness-of-spec : {M : Type 1} → statement M
+roughness-of-spec = tie.close (tie.spec returns nan-requires returns-2)

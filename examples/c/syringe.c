@@ -1,0 +1,235 @@
+/*
+ * Light at a filled syringe, through the static library: a path enters the glass barrel, meets the
+ * steel of the needle, and leaves. The optical values are illustrative and are no data of a material.
+ *
+ *   syringe           prints the path, and must print examples/expected
+ *   syringe --bench   times rulvimba_bounces
+ */
+#include <inttypes.h>
+#include <math.h>
+#include <stdio.h>
+#include <stdlib.h>
+#include <string.h>
+#include <time.h>
+
+#include "rulvimba.h"
+
+#define ENTRIES 95
+#define MANY 1000
+
+static double glass_eta[ENTRIES], glass_k[ENTRIES], steel_eta[ENTRIES], steel_k[ENTRIES];
+static double input[MANY * RULVIMBA_BOUNCE_IN], output[MANY * RULVIMBA_BOUNCE_OUT];
+
+static uint64_t bits(double x) {
+    uint64_t b;
+    memcpy(&b, &x, sizeof b);
+    return b;
+}
+
+static void print_path(const rulvimba_path *p) {
+    printf("  wavelengths %.1f %.1f %.1f %.1f\n", p->lambda.s0, p->lambda.s1, p->lambda.s2, p->lambda.s3);
+    printf("  powers      %.6f %.6f %.6f %.6f\n", p->power.s0, p->power.s1, p->power.s2, p->power.s3);
+    printf("  in bits     %016" PRIx64 " %016" PRIx64 " %016" PRIx64 " %016" PRIx64 "\n", bits(p->power.s0),
+           bits(p->power.s1), bits(p->power.s2), bits(p->power.s3));
+}
+
+static void print_bounce(const char *where, rulvimba_bounce_result r, const rulvimba_path *p) {
+    static const char *const outcomes[] = {"refused", "lost", "reflected", "passed"};
+    printf("%s: %s", where, outcomes[r.outcome]);
+    if (r.outcome == RULVIMBA_REFUSED)
+        printf(" %" PRIu64, r.number);
+    printf("\n");
+    if (r.outcome == RULVIMBA_REFLECTED || r.outcome == RULVIMBA_PASSED) {
+        printf("  direction   %.6f %.6f %.6f\n", r.wi.x, r.wi.y, r.wi.z);
+        if (r.density.finite)
+            printf("  density     %.6f\n", r.density.value);
+        else
+            printf("  density     not finite\n");
+    }
+    if (r.shares.given)
+        printf("  shares      %.6f %.6f\n", r.shares.reflected, r.shares.passed);
+    print_path(p);
+}
+
+static rulvimba_surface make(uint64_t kind, double roughness, const double *eta, const double *k) {
+    rulvimba_surface_result r = rulvimba_make_surface(kind, roughness, eta, ENTRIES, k, ENTRIES);
+    if (r.number != 0) {
+        printf("a surface is refused: %" PRIu64 "\n", r.number);
+        exit(1);
+    }
+    return r.surface;
+}
+
+/* bounce i of the array: a path of its own, and numbers that differ from bounce to bounce */
+static void fill(double *b, size_t i) {
+    double t = (double)i / MANY;
+    const double path[8] = {450.0, 530.0, 610.0, 690.0, 1.0, 1.0, 1.0, 1.0};
+    memcpy(b, path, sizeof path);
+    double z = 1.0 - 0.9 * t;
+    b[8] = sqrt(1.0 - z * z);
+    b[9] = 0.0;
+    b[10] = z;
+    b[11] = 0.0;
+    b[12] = 0.0;
+    b[13] = 1.0;
+    b[14] = 0.0;
+    b[15] = t;
+    b[16] = 1.0 - t - 1.0 / (2 * MANY);
+    b[17] = i % 2 ? 0.6 : -0.8;
+    b[18] = i % 2 ? 0.8 : 0.6;
+    for (int j = 19; j < 27; j++)
+        b[j] = 0.9;
+}
+
+static void many(rulvimba_surface surface, const double *eta, const double *k) {
+    for (size_t i = 0; i < MANY; i++)
+        fill(input + i * RULVIMBA_BOUNCE_IN, i);
+    input[7 * RULVIMBA_BOUNCE_IN + 15] = 1.0; /* bounce 7 has a u that is refused */
+    size_t n = rulvimba_bounces(surface, eta, ENTRIES, k, ENTRIES, input, MANY * RULVIMBA_BOUNCE_IN, output,
+                                MANY * RULVIMBA_BOUNCE_OUT);
+    size_t outcomes[4] = {0, 0, 0, 0};
+    uint64_t sum = 0;
+    for (size_t i = 0; i < n; i++) {
+        const double *o = output + i * RULVIMBA_BOUNCE_OUT;
+        outcomes[(int)o[9]]++;
+        for (int j = 0; j < RULVIMBA_BOUNCE_OUT; j++)
+            sum = sum * 31 + bits(o[j]);
+    }
+    printf("many: %zu bounces, %zu refused, %zu lost, %zu reflected, %zu passed; sum of the bits %016" PRIx64 "\n", n,
+           outcomes[0], outcomes[1], outcomes[2], outcomes[3], sum);
+    printf("  the refused one has number %.0f and powers %.1f\n", output[7 * RULVIMBA_BOUNCE_OUT + 8],
+           output[7 * RULVIMBA_BOUNCE_OUT + 4]);
+
+    /* one by one, on paths in memory: the same answers */
+    size_t differ = 0;
+    for (size_t i = 0; i < n; i++) {
+        const double *b = input + i * RULVIMBA_BOUNCE_IN;
+        rulvimba_path p = {{b[0], b[1], b[2], b[3]}, {b[4], b[5], b[6], b[7]}};
+        rulvimba_bounce_args a = {{b[8], b[9], b[10]},         {b[11], b[12], b[13]},
+                                  b[14] != 0.0,                b[15],
+                                  b[16],                       b[17],
+                                  b[18],                       {b[19], b[20], b[21], b[22]},
+                                  {b[23], b[24], b[25], b[26]}};
+        rulvimba_bounce_result r = rulvimba_bounce(&p, surface, eta, ENTRIES, k, ENTRIES, a);
+        const double one[RULVIMBA_BOUNCE_OUT] = {
+            p.lambda.s0,      p.lambda.s1,        p.lambda.s2,      p.lambda.s3,
+            p.power.s0,       p.power.s1,         p.power.s2,       p.power.s3,
+            (double)r.number, (double)r.outcome,  r.wi.x,           r.wi.y,
+            r.wi.z,           (double)r.density.finite, r.density.value, (double)r.shares.given,
+            r.shares.reflected, r.shares.passed};
+        differ += memcmp(one, output + i * RULVIMBA_BOUNCE_OUT, sizeof one) != 0;
+    }
+    printf("  one by one: %zu differ\n", differ);
+
+    /* an output with room for two: what lies past their answers is as it was */
+    double few[2 * RULVIMBA_BOUNCE_OUT + 5];
+    size_t few_len = sizeof few / sizeof few[0], kept = 0;
+    for (size_t i = 0; i < few_len; i++)
+        few[i] = -1.0;
+    n = rulvimba_bounces(surface, eta, ENTRIES, k, ENTRIES, input, MANY * RULVIMBA_BOUNCE_IN, few, few_len);
+    for (size_t i = 2 * RULVIMBA_BOUNCE_OUT; i < few_len; i++)
+        kept += few[i] == -1.0;
+    printf("  room for two: %zu bounces, the first two as before: %s, %zu of 5 doubles past them kept\n", n,
+           memcmp(few, output, 2 * RULVIMBA_BOUNCE_OUT * sizeof few[0]) == 0 ? "yes" : "no", kept);
+}
+
+static void bench(const char *name, rulvimba_surface surface, const double *eta, const double *k) {
+    for (size_t i = 0; i < MANY; i++)
+        fill(input + i * RULVIMBA_BOUNCE_IN, i);
+    double best = 1e9;
+    for (int run = 0; run < 20; run++) {
+        struct timespec a, b;
+        timespec_get(&a, TIME_UTC);
+        for (int times = 0; times < 100; times++)
+            rulvimba_bounces(surface, eta, ENTRIES, k, ENTRIES, input, MANY * RULVIMBA_BOUNCE_IN, output,
+                             MANY * RULVIMBA_BOUNCE_OUT);
+        timespec_get(&b, TIME_UTC);
+        double s = (double)(b.tv_sec - a.tv_sec) + 1e-9 * (double)(b.tv_nsec - a.tv_nsec);
+        if (s < best)
+            best = s;
+    }
+    printf("%s: %.0f ns a bounce, %.2f million bounces a second\n", name, best * 1e9 / (100.0 * MANY),
+           100.0 * MANY / best / 1e6);
+}
+
+int main(int argc, char **argv) {
+    for (int i = 0; i < ENTRIES; i++) {
+        glass_eta[i] = 1.53 - 0.0002 * i; /* disperses a little */
+        glass_k[i] = 0.0;
+        steel_eta[i] = 2.0 + 0.01 * i;
+        steel_k[i] = 3.0 + 0.01 * i;
+    }
+    rulvimba_surface glass = make(RULVIMBA_GLASS, 0.0, glass_eta, glass_k);
+    rulvimba_surface rough_glass = make(RULVIMBA_GLASS, 0.2, glass_eta, glass_k);
+    rulvimba_surface steel = make(RULVIMBA_METAL, 0.3, steel_eta, steel_k);
+
+    if (argc > 1 && strcmp(argv[1], "--bench") == 0) {
+        bench("steel, roughness 0.3", steel, steel_eta, steel_k);
+        bench("glass, roughness 0.2", rough_glass, glass_eta, glass_k);
+        bench("glass, smooth       ", glass, glass_eta, glass_k);
+        return 0;
+    }
+
+    rulvimba_path path;
+    rulvimba_color lambda = {450.0, 530.0, 610.0, 690.0};
+    printf("start: %" PRIu64 "\n", rulvimba_start(&path, lambda));
+    print_path(&path);
+
+    /* through the barrel: wo points back to the lamp */
+    rulvimba_bounce_args barrel = {{0.0, 0.6, 0.8}, {0.0, 0.0, 1.0}, false, 0.5, 0.25, 0.6, 0.8, {1.0, 1.0, 1.0, 1.0}, {0.9, 0.9, 0.9, 0.9}};
+    rulvimba_bounce_result r = rulvimba_bounce(&path, glass, glass_eta, ENTRIES, glass_k, ENTRIES, barrel);
+    print_bounce("glass barrel", r, &path);
+
+    /* the needle: wo is where the light came from, so the direction turned round */
+    rulvimba_bounce_args needle = barrel;
+    needle.wo.x = -r.wi.x;
+    needle.wo.y = -r.wi.y;
+    needle.wo.z = -r.wi.z;
+    r = rulvimba_bounce(&path, steel, steel_eta, ENTRIES, steel_k, ENTRIES, needle);
+    print_bounce("needle steel", r, &path);
+
+    /* a direction of length 2 is refused, and the path is kept */
+    rulvimba_bounce_args bad = barrel;
+    bad.wo.z = 2.0;
+    r = rulvimba_bounce(&path, steel, steel_eta, ENTRIES, steel_k, ENTRIES, bad);
+    print_bounce("too long a direction", r, &path);
+    printf("a start at 200 nm: %" PRIu64 "\n", rulvimba_start(&path, (rulvimba_color){200.0, 530.0, 610.0, 690.0}));
+    print_path(&path);
+
+    /* terms */
+    rulvimba_vec3 z = {0.0, 0.0, 1.0}, w = {0.0, 0.6, 0.8};
+    rulvimba_float_result f = rulvimba_lookup(glass_eta, ENTRIES, 589.3);
+    printf("lookup: %" PRIu64 " %.6f; ", f.number, f.value);
+    f = rulvimba_lookup(glass_eta, 94, 589.3);
+    printf("of 94 entries: %" PRIu64 "\n", f.number);
+    f = rulvimba_lambda(steel, steel_eta, ENTRIES, steel_k, ENTRIES, w);
+    printf("lambda: %" PRIu64 " %.6f\n", f.number, f.value);
+    f = rulvimba_g1(steel, steel_eta, ENTRIES, steel_k, ENTRIES, w, z);
+    printf("g1: %" PRIu64 " %.6f\n", f.number, f.value);
+    f = rulvimba_g(steel, steel_eta, ENTRIES, steel_k, ENTRIES, w, w, z);
+    printf("g: %" PRIu64 " %.6f\n", f.number, f.value);
+    f = rulvimba_d(steel, steel_eta, ENTRIES, steel_k, ENTRIES, z);
+    printf("d: %" PRIu64 " %.6f\n", f.number, f.value);
+    f = rulvimba_fresnel_at(steel, steel_eta, ENTRIES, steel_k, ENTRIES, w, z, 530.0);
+    printf("fresnel at one wavelength: %" PRIu64 " %.6f\n", f.number, f.value);
+    rulvimba_color_result fs = rulvimba_fresnel(steel, steel_eta, ENTRIES, steel_k, ENTRIES, w, z, lambda);
+    printf("fresnel at four: %" PRIu64 " %.6f %.6f %.6f %.6f\n", fs.number, fs.value.s0, fs.value.s1, fs.value.s2, fs.value.s3);
+    rulvimba_vec3_result n = rulvimba_sample_normal(steel, steel_eta, ENTRIES, steel_k, ENTRIES, w, 0.25, 0.6, 0.8);
+    printf("sampled normal: %" PRIu64 " %.6f %.6f %.6f\n", n.number, n.value.x, n.value.y, n.value.z);
+    rulvimba_direction_result d = rulvimba_reflect(w, z);
+    printf("mirror: %" PRIu64 " %" PRIu64 " %.6f %.6f %.6f\n", d.number, d.outcome, d.direction.x, d.direction.y, d.direction.z);
+    d = rulvimba_refract(1.5, w, z);
+    printf("bend: %" PRIu64 " %" PRIu64 " %.6f %.6f %.6f\n", d.number, d.outcome, d.direction.x, d.direction.y, d.direction.z);
+    d = rulvimba_refract(0.5, (rulvimba_vec3){0.0, 0.8, 0.6}, z);
+    printf("bend: %" PRIu64 " %" PRIu64 "\n", d.number, d.outcome);
+    f = rulvimba_density(steel, steel_eta, ENTRIES, steel_k, ENTRIES, w, (rulvimba_vec3){0.0, -0.6, 0.8}, true, 530.0);
+    printf("density: %" PRIu64 " %.6f\n", f.number, f.value);
+    rulvimba_surface odd = steel;
+    odd.kind = 2;
+    printf("a kind of 2: %" PRIu64 "\n", rulvimba_check_surface(odd, steel_eta, ENTRIES, steel_k, ENTRIES));
+    printf("steel as glass: %" PRIu64 "\n", rulvimba_make_surface(RULVIMBA_GLASS, 0.3, steel_eta, ENTRIES, steel_k, ENTRIES).number);
+
+    many(rough_glass, glass_eta, glass_k);
+    many(steel, steel_eta, steel_k);
+    return 0;
+}

@@ -1,0 +1,202 @@
+//! The library in Rust: the declarations of include/rulvimba.h, each behind a safe function. A slice goes
+//! over as its pointer and its length, a path as a `&mut Path`; the library asks nothing else of its caller.
+
+#[repr(C)]
+#[derive(Clone, Copy, Debug, Default, PartialEq)]
+pub struct Vec3 {
+    pub x: f64,
+    pub y: f64,
+    pub z: f64,
+}
+
+#[repr(C)]
+#[derive(Clone, Copy, Debug, Default, PartialEq)]
+pub struct Color {
+    pub s0: f64,
+    pub s1: f64,
+    pub s2: f64,
+    pub s3: f64,
+}
+
+#[repr(C)]
+#[derive(Clone, Copy, Debug, Default, PartialEq)]
+pub struct Vec2 {
+    pub x: f64,
+    pub y: f64,
+}
+
+pub const METAL: u64 = 0;
+pub const GLASS: u64 = 1;
+
+#[repr(C)]
+#[derive(Clone, Copy, Debug, Default, PartialEq)]
+pub struct Surface {
+    pub kind: u64,
+    pub roughness: Vec2,
+}
+
+#[repr(C)]
+#[derive(Clone, Copy, Debug, Default, PartialEq)]
+pub struct Path {
+    pub lambda: Color,
+    pub power: Color,
+}
+
+#[repr(C)]
+#[derive(Clone, Copy, Debug, Default, PartialEq)]
+pub struct BounceArgs {
+    pub wo: Vec3,
+    pub normal: Vec3,
+    pub backface: bool,
+    pub u: f64,
+    pub disk: f64,
+    pub c: f64,
+    pub s: f64,
+    pub ks: Color,
+    pub tf: Color,
+}
+
+/// A result: document 01's number, 0 where the call is accepted, and the value.
+#[repr(C)]
+#[derive(Clone, Copy, Debug, PartialEq)]
+pub struct Answer<T> {
+    pub number: u64,
+    pub value: T,
+}
+
+pub const DIRECTION: u64 = 1;
+pub const NONE: u64 = 2;
+pub const TOTAL: u64 = 3;
+
+#[repr(C)]
+#[derive(Clone, Copy, Debug, PartialEq)]
+pub struct DirectionResult {
+    pub number: u64,
+    pub outcome: u64,
+    pub direction: Vec3,
+}
+
+pub const REFUSED: u64 = 0;
+pub const LOST: u64 = 1;
+pub const REFLECTED: u64 = 2;
+pub const PASSED: u64 = 3;
+
+#[repr(C)]
+#[derive(Clone, Copy, Debug, PartialEq)]
+pub struct Density {
+    pub finite: u64,
+    pub value: f64,
+}
+
+#[repr(C)]
+#[derive(Clone, Copy, Debug, PartialEq)]
+pub struct Shares {
+    pub given: u64,
+    pub reflected: f64,
+    pub passed: f64,
+}
+
+#[repr(C)]
+#[derive(Clone, Copy, Debug, PartialEq)]
+pub struct BounceResult {
+    pub number: u64,
+    pub outcome: u64,
+    pub wi: Vec3,
+    pub density: Density,
+    pub shares: Shares,
+}
+
+/// Doubles for each bounce of `bounces`, in and out; include/rulvimba.h has their places.
+pub const BOUNCE_IN: usize = 27;
+pub const BOUNCE_OUT: usize = 18;
+
+mod c {
+    use super::*;
+    type P = *const f64;
+    extern "C" {
+        pub fn rulvimba_make_surface(kind: u64, roughness: f64, eta: P, n: usize, k: P, m: usize) -> Answer<Surface>;
+        pub fn rulvimba_check_surface(surface: Surface, eta: P, n: usize, k: P, m: usize) -> u64;
+        pub fn rulvimba_start(path: *mut Path, lambda: Color) -> u64;
+        pub fn rulvimba_bounce(path: *mut Path, surface: Surface, eta: P, n: usize, k: P, m: usize, b: BounceArgs) -> BounceResult;
+        pub fn rulvimba_bounces(
+            surface: Surface, eta: P, n: usize, k: P, m: usize, input: P, input_len: usize, output: *mut f64, output_len: usize,
+        ) -> usize;
+        pub fn rulvimba_lookup(values: P, n: usize, lambda: f64) -> Answer<f64>;
+        pub fn rulvimba_lambda(surface: Surface, eta: P, n: usize, k: P, m: usize, w: Vec3) -> Answer<f64>;
+        pub fn rulvimba_g1(surface: Surface, eta: P, n: usize, k: P, m: usize, wo: Vec3, wh: Vec3) -> Answer<f64>;
+        pub fn rulvimba_g(surface: Surface, eta: P, n: usize, k: P, m: usize, wo: Vec3, wi: Vec3, wh: Vec3) -> Answer<f64>;
+        pub fn rulvimba_d(surface: Surface, eta: P, n: usize, k: P, m: usize, wh: Vec3) -> Answer<f64>;
+        pub fn rulvimba_fresnel_at(surface: Surface, eta: P, n: usize, k: P, m: usize, wo: Vec3, wh: Vec3, lambda: f64) -> Answer<f64>;
+        pub fn rulvimba_fresnel(surface: Surface, eta: P, n: usize, k: P, m: usize, wo: Vec3, wh: Vec3, lambda: Color) -> Answer<Color>;
+        pub fn rulvimba_sample_normal(
+            surface: Surface, eta: P, n: usize, k: P, m: usize, wo: Vec3, disk: f64, c: f64, s: f64,
+        ) -> Answer<Vec3>;
+        pub fn rulvimba_reflect(wo: Vec3, n: Vec3) -> DirectionResult;
+        pub fn rulvimba_refract(eta: f64, wo: Vec3, n: Vec3) -> DirectionResult;
+        pub fn rulvimba_density(
+            surface: Surface, eta: P, n: usize, k: P, m: usize, wo: Vec3, wi: Vec3, reflection: bool, lambda: f64,
+        ) -> Answer<f64>;
+    }
+}
+
+/// The spectra of a surface, which are lent with it in each call.
+#[derive(Clone, Copy)]
+pub struct Spectra<'a> {
+    pub eta: &'a [f64],
+    pub k: &'a [f64],
+}
+
+macro_rules! with {
+    ($f:ident, $surface:expr, $s:expr $(, $rest:expr)*) => {
+        unsafe { c::$f($surface, $s.eta.as_ptr(), $s.eta.len(), $s.k.as_ptr(), $s.k.len() $(, $rest)*) }
+    };
+}
+
+pub fn make_surface(kind: u64, roughness: f64, s: Spectra) -> Answer<Surface> {
+    unsafe { c::rulvimba_make_surface(kind, roughness, s.eta.as_ptr(), s.eta.len(), s.k.as_ptr(), s.k.len()) }
+}
+pub fn check_surface(surface: Surface, s: Spectra) -> u64 {
+    with!(rulvimba_check_surface, surface, s)
+}
+pub fn start(path: &mut Path, lambda: Color) -> u64 {
+    unsafe { c::rulvimba_start(path, lambda) }
+}
+pub fn bounce(path: &mut Path, surface: Surface, s: Spectra, b: BounceArgs) -> BounceResult {
+    unsafe { c::rulvimba_bounce(path, surface, s.eta.as_ptr(), s.eta.len(), s.k.as_ptr(), s.k.len(), b) }
+}
+pub fn bounces(surface: Surface, s: Spectra, input: &[f64], output: &mut [f64]) -> usize {
+    with!(rulvimba_bounces, surface, s, input.as_ptr(), input.len(), output.as_mut_ptr(), output.len())
+}
+pub fn lookup(values: &[f64], lambda: f64) -> Answer<f64> {
+    unsafe { c::rulvimba_lookup(values.as_ptr(), values.len(), lambda) }
+}
+pub fn lambda(surface: Surface, s: Spectra, w: Vec3) -> Answer<f64> {
+    with!(rulvimba_lambda, surface, s, w)
+}
+pub fn g1(surface: Surface, s: Spectra, wo: Vec3, wh: Vec3) -> Answer<f64> {
+    with!(rulvimba_g1, surface, s, wo, wh)
+}
+pub fn g(surface: Surface, s: Spectra, wo: Vec3, wi: Vec3, wh: Vec3) -> Answer<f64> {
+    with!(rulvimba_g, surface, s, wo, wi, wh)
+}
+pub fn d(surface: Surface, s: Spectra, wh: Vec3) -> Answer<f64> {
+    with!(rulvimba_d, surface, s, wh)
+}
+pub fn fresnel_at(surface: Surface, s: Spectra, wo: Vec3, wh: Vec3, lambda: f64) -> Answer<f64> {
+    with!(rulvimba_fresnel_at, surface, s, wo, wh, lambda)
+}
+pub fn fresnel(surface: Surface, s: Spectra, wo: Vec3, wh: Vec3, lambda: Color) -> Answer<Color> {
+    with!(rulvimba_fresnel, surface, s, wo, wh, lambda)
+}
+pub fn sample_normal(surface: Surface, s: Spectra, wo: Vec3, disk: f64, cos: f64, sin: f64) -> Answer<Vec3> {
+    with!(rulvimba_sample_normal, surface, s, wo, disk, cos, sin)
+}
+pub fn reflect(wo: Vec3, n: Vec3) -> DirectionResult {
+    unsafe { c::rulvimba_reflect(wo, n) }
+}
+pub fn refract(eta: f64, wo: Vec3, n: Vec3) -> DirectionResult {
+    unsafe { c::rulvimba_refract(eta, wo, n) }
+}
+pub fn density(surface: Surface, s: Spectra, wo: Vec3, wi: Vec3, reflection: bool, lambda: f64) -> Answer<f64> {
+    with!(rulvimba_density, surface, s, wo, wi, reflection, lambda)
+}
