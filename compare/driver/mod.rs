@@ -1,11 +1,13 @@
 //! Compares the Rattle crates with lumo's Rust, function by function.
 //!
 //! With no words, a million inputs for each function. A number: so many. --gate: fewer, for a gate.
-//! --seed N: other inputs. --sample FOLDER: writes the Rust's answers. --bench: times.
+//! --seed N: other inputs. --library: the static library alone, ten million bounces or as many as a number says.
+//! --sample FOLDER: writes the Rust's answers. --bench: times.
 mod bench;
 #[macro_use]
 mod harness;
 mod inputs;
+mod library;
 mod numbers;
 mod optics;
 mod path;
@@ -41,21 +43,32 @@ fn sample(seed: u64, folder: &str) {
     }
 }
 
+/// How many bounces the gate has the static library run.
+const GATE_BOUNCES: usize = 200_000;
+
 pub fn main() {
     harness::set_hook();
     let mut seed = 1;
-    let mut count = 1_000_000;
+    let mut count = None;
+    let (mut gate, mut of_library) = (false, false);
     let mut words = std::env::args().skip(1);
     while let Some(word) = words.next() {
         match word.as_str() {
-            "--gate" => count = 50_000,
+            "--gate" => gate = true,
+            "--library" => of_library = true,
             "--seed" => seed = words.next().and_then(|w| w.parse().ok()).expect("--seed N"),
             "--sample" => return sample(seed, &words.next().expect("--sample FOLDER")),
             "--bench" => return bench::bench(seed, &families()),
-            n => count = n.parse().expect("a number of inputs"),
+            n => count = Some(n.parse().expect("a number of inputs")),
         }
     }
-    let differences = compare(seed, count);
+    let differences = if of_library {
+        library::compare(seed, count.unwrap_or(10_000_000))
+    } else if gate {
+        compare(seed, 50_000) + library::compare(seed, GATE_BOUNCES)
+    } else {
+        compare(seed, count.unwrap_or(1_000_000))
+    };
     if differences > 0 {
         println!("compare: {differences} differences");
         std::process::exit(1);

@@ -82,6 +82,15 @@ extern "C" {
 pub const OUTS: usize = 18;
 pub const INS: usize = 8 + 19;
 
+impl Path {
+    pub fn words(&self) -> [u64; 8] {
+        let mut out = [0; 8];
+        self.lambda.put(&mut out[..4]);
+        self.power.put(&mut out[4..]);
+        out
+    }
+}
+
 impl Bounced {
     pub fn words(&self) -> [u64; OUTS] {
         let mut out = [0; OUTS];
@@ -93,8 +102,7 @@ impl Bounced {
         out[7] = self.shares.there as u64;
         out[8] = bits(self.shares.reflected);
         out[9] = bits(self.shares.passed);
-        self.path.lambda.put(&mut out[10..14]);
-        self.path.power.put(&mut out[14..18]);
+        out[10..].copy_from_slice(&self.path.words());
         out
     }
 }
@@ -416,10 +424,10 @@ pub fn next_bounce(rng: &mut Rng, p: &Path, of: &[Lumo], on: Option<Vec3>) -> (u
 // ---- the comparison
 
 #[derive(Default)]
-struct Counts {
-    bounces: usize,
+pub struct Counts {
+    pub bounces: usize,
     lists: usize,
-    differences: usize,
+    pub differences: usize,
     refused: [usize; 11],
     lost_metal: usize,
     lost_glass: usize,
@@ -446,46 +454,60 @@ impl Counts {
             self.powers[1] += (a.path.power.0[0] != 0.0) as usize;
         }
     }
+
+    pub fn print(&self, name: &str) {
+        println!("{name:<44} {:>9} bounces {:>5} differences, in {} lists", self.bounces, self.differences, self.lists);
+        println!(
+            "  refused {} (by number {:?}), lost {} on metal and {} on glass, reflected {} by metal and {} by glass, passed {}",
+            self.refused.iter().sum::<usize>(), &self.refused[1..], self.lost_metal, self.lost_glass, self.reflected[0], self.reflected[1], self.passed
+        );
+        println!("  density not finite {}; leading power after a direction 0 {}, else {}", self.not_finite, self.powers[0], self.powers[1]);
+    }
 }
 
-fn report(p: &Path, of: &Lumo, b: &Bounce, here: &Bounced, rust: Option<&Bounced>) {
+pub fn report(name: &str, p: &Path, of: &Lumo, b: &Bounce, here: &[u64], rust: Option<&Bounced>) {
     let s = &of.surface;
-    println!("  path_bounce, {}, roughness {}", if s.glass { "glass" } else { "metal" }, hex_floats(&[s.a.x, s.a.y]));
+    println!("  {name}, {}, roughness {}", if s.glass { "glass" } else { "metal" }, hex_floats(&[s.a.x, s.a.y]));
     println!("    eta {}\n    k   {}", hex_floats(&s.eta), hex_floats(&s.k));
     println!("    in  {}", hex_floats(&words_in(p, b)));
-    println!("    here {}", hex(&here.words()));
+    println!("    here {}", hex(here));
     match rust {
         Some(rust) => println!("    rust {}", hex(&rust.words())),
         None => println!("    rust panics"),
     }
 }
 
+/// Four wavelengths to start at, often refused.
+pub fn start_input(rng: &mut Rng, i: usize) -> Color {
+    match rng.below(4) {
+        0 => four(rng, |rng| spectra::wavelength(rng)),
+        1 => {
+            let mut l = four(rng, |rng| rng.between(360.0, 830.0));
+            l.0[rng.below(4)] = spectra::any_wavelength(rng, i);
+            l
+        }
+        _ => start(rng).lambda,
+    }
+}
+
+/// The path that a start gives: every wavelength is one of 360 to 830. None where it is refused, by 4.
+pub fn rust_start(lambda: Color) -> Option<Path> {
+    lambda.0.iter().all(|l| is_wavelength(*l)).then_some(Path { lambda, power: ONES })
+}
+
 fn compare_start(seed: u64, count: usize) -> usize {
     let rng = &mut Rng(seed ^ 0x57a7);
+    let nothing = Path { lambda: Color([0.0; 4]), power: Color([0.0; 4]) };
     let mut differences = 0;
     for i in 0..count {
-        let lambda = match rng.below(4) {
-            0 => four(rng, |rng| spectra::wavelength(rng)),
-            1 => {
-                let mut l = four(rng, |rng| rng.between(360.0, 830.0));
-                l.0[rng.below(4)] = spectra::any_wavelength(rng, i);
-                l
-            }
-            _ => start(rng).lambda,
-        };
+        let lambda = start_input(rng, i);
         let here = unsafe { path_start(lambda) };
-        // every wavelength of 360 to 830, where lumo's lookup takes it and it isn't 0
-        let taken = lambda.0.iter().all(|l| is_wavelength(*l));
-        let rust = if taken {
-            (0, lambda, ONES)
-        } else {
-            (4, Color([0.0; 4]), Color([0.0; 4]))
-        };
-        let same = |a: &Color, b: &Color| a.0.iter().zip(b.0).all(|(x, y)| bits(*x) == bits(y));
-        if here.number != rust.0 || !same(&here.path.lambda, &rust.1) || !same(&here.path.power, &rust.2) {
+        let rust = rust_start(lambda);
+        let number = if rust.is_some() { 0 } else { 4 };
+        if here.number != number || here.path.words() != rust.unwrap_or(nothing).words() {
             differences += 1;
             if differences <= 3 {
-                println!("  path_start\n    in  {}\n    here {} rust {}", hex_floats(&lambda.0), here.number, rust.0);
+                println!("  path_start\n    in  {}\n    here {} rust {number}", hex_floats(&lambda.0), here.number);
             }
         }
     }
@@ -493,15 +515,39 @@ fn compare_start(seed: u64, count: usize) -> usize {
     differences
 }
 
-pub fn compare(seed: u64, count: usize) -> usize {
-    let starts = compare_start(seed, count);
-    let bounces = count * 5;
+/// What answers the bounces of a walk.
+pub trait Subject {
+    const NAME: &'static str;
+
+    /// The answer on the surface at `which`, and its words as they came. `rust` is the driver's own.
+    fn bounce(&mut self, p: &Path, which: usize, of: &Lumo, b: &Bounce, rust: Option<&Bounced>) -> (Bounced, [u64; OUTS]);
+
+    /// Other surfaces take the place of these.
+    fn surfaces_end(&mut self, _of: &[Lumo]) {}
+}
+
+/// The crate's own bounce, by value.
+struct ByValue;
+
+impl Subject for ByValue {
+    const NAME: &'static str = "path_bounce";
+
+    fn bounce(&mut self, p: &Path, _: usize, of: &Lumo, b: &Bounce, _: Option<&Bounced>) -> (Bounced, [u64; OUTS]) {
+        let a = here(p, &of.surface, b);
+        (a, a.words())
+    }
+}
+
+/// Lists of bounces on one path, `bounces` of them or a few more, each beside the driver's own answer; the first
+/// list has the known edges.
+pub fn walk<S: Subject>(seed: u64, bounces: usize, subject: &mut S) -> Counts {
     let rng = &mut Rng(seed ^ 0x9a7b);
     let mut c = Counts::default();
     let mut of = surfaces(rng, 64);
     while c.bounces < bounces {
         // other surfaces every so often
         if c.lists % 256 == 255 {
+            subject.surfaces_end(&of);
             of = surfaces(rng, 64);
         }
         let mut p = start(rng);
@@ -513,17 +559,15 @@ pub fn compare(seed: u64, count: usize) -> usize {
         for at in 0..length {
             let (which, b) = match if c.lists == 0 { special(at) } else { None } {
                 Some(of) => of,
-                None => {
-                    next_bounce(rng, &p, &of, on)
-                }
+                None => next_bounce(rng, &p, &of, on),
             };
             let l = &of[which];
-            let a = here(&p, &l.surface, &b);
             let r = caught(|| rust(&p, l, &b));
-            if r.is_none_or(|r| r.words() != a.words()) {
+            let (a, words) = subject.bounce(&p, which, l, &b, r.as_ref());
+            if r.is_none_or(|r| r.words() != words) {
                 c.differences += 1;
                 if c.differences <= 3 {
-                    report(&p, l, &b, &a, r.as_ref());
+                    report(S::NAME, &p, l, &b, &words, r.as_ref());
                 }
             }
             // document 01's own numbers
@@ -545,12 +589,14 @@ pub fn compare(seed: u64, count: usize) -> usize {
         }
         c.lists += 1;
     }
-    println!("{:<44} {:>9} bounces {:>5} differences, in {} lists", "path_bounce", c.bounces, c.differences, c.lists);
-    println!(
-        "  refused {} (by number {:?}), lost {} on metal and {} on glass, reflected {} by metal and {} by glass, passed {}",
-        c.refused.iter().sum::<usize>(), &c.refused[1..], c.lost_metal, c.lost_glass, c.reflected[0], c.reflected[1], c.passed
-    );
-    println!("  density not finite {}; leading power after a direction 0 {}, else {}", c.not_finite, c.powers[0], c.powers[1]);
+    subject.surfaces_end(&of);
+    c
+}
+
+pub fn compare(seed: u64, count: usize) -> usize {
+    let starts = compare_start(seed, count);
+    let c = walk(seed, count * 5, &mut ByValue);
+    c.print(ByValue::NAME);
     starts + c.differences
 }
 

@@ -1,0 +1,511 @@
+//! librulvimba, the static library for customers, beside the Rust: every call of include/rulvimba.h, through
+//! the declarations that the example in Rust has.
+//!
+//! Bounces are the lists of path.rs, one by one on a path in memory (`rulvimba_bounce`) and then once more by
+//! surface, many to a call (`rulvimba_bounces`). The other calls get the inputs and the Rust's answers of the
+//! checked calls in optics.rs and numbers.rs, which they are under other names.
+use super::harness::*;
+use super::inputs::Rng;
+use super::optics::{fields, Color, Fields, SURFACE};
+use super::path::{report, rust_start, start_input, walk, words_in, Bounce, Bounced, Density, Lumo, Path, Shares, Subject, INS, OUTS};
+use super::spectra::MOST;
+use super::surfaces::Surface;
+use crate::{Vec2, Vec3};
+
+#[path = "../../examples/rust/rulvimba.rs"]
+mod rulvimba;
+use rulvimba::{Answer, BounceArgs, BounceResult, DirectionResult, Spectra, BOUNCE_IN, BOUNCE_OUT, GLASS, METAL};
+
+// ---- the driver's records as the library's, and back
+
+fn c2(v: Vec2) -> rulvimba::Vec2 {
+    rulvimba::Vec2 { x: v.x, y: v.y }
+}
+
+fn c3(v: Vec3) -> rulvimba::Vec3 {
+    rulvimba::Vec3 { x: v.x, y: v.y, z: v.z }
+}
+
+fn c4(c: Color) -> rulvimba::Color {
+    let [s0, s1, s2, s3] = c.0;
+    rulvimba::Color { s0, s1, s2, s3 }
+}
+
+fn three(v: rulvimba::Vec3) -> [f64; 3] {
+    [v.x, v.y, v.z]
+}
+
+fn four(c: rulvimba::Color) -> [f64; 4] {
+    [c.s0, c.s1, c.s2, c.s3]
+}
+
+fn eight(p: &rulvimba::Path) -> [f64; 8] {
+    let mut out = [0.0; 8];
+    out[..4].copy_from_slice(&four(p.lambda));
+    out[4..].copy_from_slice(&four(p.power));
+    out
+}
+
+fn arguments(b: &Bounce) -> BounceArgs {
+    BounceArgs {
+        wo: c3(b.wo),
+        normal: c3(b.normal),
+        backface: b.backface,
+        u: b.u,
+        disk: b.disk,
+        c: b.c,
+        s: b.s,
+        ks: c4(b.ks),
+        tf: c4(b.tf),
+    }
+}
+
+fn surface(kind: u64, a: Vec2) -> rulvimba::Surface {
+    rulvimba::Surface { kind, roughness: c2(a) }
+}
+
+fn spectra(s: &Surface) -> Spectra<'_> {
+    Spectra { eta: &s.eta, k: &s.k }
+}
+
+/// A kind that is neither metal nor glass.
+fn other_kind(rng: &mut Rng) -> u64 {
+    [2, 3, 1 << 32, u64::MAX, 2 + (rng.next() >> 1)][rng.below(5)]
+}
+
+fn raw<const N: usize>(values: [f64; N]) -> [u64; N] {
+    values.map(f64::to_bits)
+}
+
+// ---- a bounce on a path in memory
+
+/// A path with words about it that no call may touch.
+#[repr(C)]
+struct Guarded {
+    before: [u64; 4],
+    path: rulvimba::Path,
+    after: [u64; 4],
+}
+
+const GUARD: u64 = 0xfff4_5a5a_a5a5_0000;
+
+impl Guarded {
+    fn new(p: &Path) -> Self {
+        let path = rulvimba::Path { lambda: c4(p.lambda), power: c4(p.power) };
+        Self { before: [GUARD; 4], path, after: [GUARD; 4] }
+    }
+
+    /// Whether the words about the path are as they were, and the path too if it must be.
+    fn is_kept(&self, p: &Path, path_too: bool) -> bool {
+        let about = self.before == [GUARD; 4] && self.after == [GUARD; 4];
+        about && (!path_too || raw(eight(&self.path)) == raw(eight(&Self::new(p).path)))
+    }
+}
+
+/// An answer's words in the order of `Bounced::words`.
+fn words(r: &BounceResult, p: &rulvimba::Path) -> [u64; OUTS] {
+    let mut out = [0; OUTS];
+    out[..2].copy_from_slice(&[r.number, r.outcome]);
+    out[2..5].copy_from_slice(&three(r.wi).map(bits));
+    out[5..7].copy_from_slice(&[r.density.finite, bits(r.density.value)]);
+    out[7..10].copy_from_slice(&[r.shares.given, bits(r.shares.reflected), bits(r.shares.passed)]);
+    out[10..].copy_from_slice(&eight(p).map(bits));
+    out
+}
+
+fn bounced(r: &BounceResult, p: &rulvimba::Path) -> Bounced {
+    Bounced {
+        number: r.number,
+        case: r.outcome,
+        wi: Vec3::new(r.wi.x, r.wi.y, r.wi.z),
+        density: Density { finite: r.density.finite == 1, value: r.density.value },
+        shares: Shares { there: r.shares.given == 1, reflected: r.shares.reflected, passed: r.shares.passed },
+        path: Path { lambda: Color(four(p.lambda)), power: Color(four(p.power)) },
+    }
+}
+
+/// The answer to a bounce that is refused.
+fn refused(number: u64, p: &Path) -> Bounced {
+    let none = rulvimba::Vec3::default();
+    let r = BounceResult {
+        number,
+        outcome: rulvimba::REFUSED,
+        wi: none,
+        density: rulvimba::Density { finite: 0, value: 0.0 },
+        shares: rulvimba::Shares { given: 0, reflected: 0.0, passed: 0.0 },
+    };
+    bounced(&r, &Guarded::new(p).path)
+}
+
+// ---- many bounces to a call
+
+/// A bounce's numbers as they go in, and the answer's as they must come out.
+#[derive(Clone, Copy)]
+struct Row {
+    input: [f64; BOUNCE_IN],
+    output: [f64; BOUNCE_OUT],
+}
+
+/// The answer's numbers in their places, whole numbers as doubles.
+fn output_of(a: &Bounced) -> [f64; BOUNCE_OUT] {
+    let (l, w) = (a.path.lambda.0, a.path.power.0);
+    [
+        l[0], l[1], l[2], l[3], w[0], w[1], w[2], w[3], a.number as f64, a.case as f64, a.wi.x, a.wi.y, a.wi.z,
+        a.density.finite as u8 as f64, a.density.value, a.shares.there as u8 as f64, a.shares.reflected, a.shares.passed,
+    ]
+}
+
+impl Row {
+    fn new(rng: &mut Rng, p: &Path, b: &Bounce, rust: &Bounced) -> Self {
+        let mut input: [f64; INS] = words_in(p, b);
+        // any number but 0 stands for a backface
+        if rng.below(4) == 0 {
+            input[14] = if b.backface { [-1.0, 0.5, f64::NAN, f64::INFINITY, f64::from_bits(1)][rng.below(5)] } else { -0.0 };
+        }
+        Self { input, output: output_of(rust) }
+    }
+
+    fn refused(&self, number: u64) -> Self {
+        let mut output = [0.0; BOUNCE_OUT];
+        output[..8].copy_from_slice(&self.input[..8]);
+        output[8] = number as f64;
+        Self { output, ..*self }
+    }
+}
+
+/// What one call is given: the rows, how many answers there is room for, and how many numbers more than whole
+/// rows both arrays have.
+struct Many<'a> {
+    rows: &'a [Row],
+    room: usize,
+    input_more: usize,
+    output_more: usize,
+}
+
+/// How many words behind the output are looked at.
+const BEHIND: usize = 24;
+
+impl Many<'_> {
+    /// How many bounces the call must run.
+    fn count(&self) -> usize {
+        self.rows.len().min(self.room)
+    }
+
+    fn input(&self) -> Vec<f64> {
+        let mut input: Vec<f64> = self.rows.iter().flat_map(|r| r.input).collect();
+        // the numbers of a row that isn't whole
+        input.resize(input.len() + self.input_more, 0.5);
+        input
+    }
+
+    /// Runs the call and answers how many rows differ; what else must be kept, and wasn't, counts as one. The first
+    /// differences are printed, where `print` says so.
+    fn differences(&self, of: rulvimba::Surface, spectra: Spectra, print: bool) -> usize {
+        let input = self.input();
+        let kept = input.clone();
+        let length = BOUNCE_OUT * self.room + self.output_more;
+        let mut output = vec![f64::from_bits(GUARD); length + BEHIND];
+        let n = rulvimba::bounces(of, spectra, &input, &mut output[..length]);
+        let answers = output.chunks(BOUNCE_OUT).zip(self.rows).take(self.count());
+        let wrong: Vec<_> = answers.filter(|(o, row)| !o.iter().zip(row.output).all(|(x, y)| bits(*x) == bits(y))).collect();
+        let past = output[BOUNCE_OUT * self.count()..].iter().any(|x| x.to_bits() != GUARD);
+        let changed = input.iter().zip(&kept).any(|(x, y)| x.to_bits() != y.to_bits());
+        if let (true, Some((o, row))) = (print, wrong.first()) {
+            println!("  rulvimba_bounces, kind {}, roughness {}", of.kind, hex_floats(&[of.roughness.x, of.roughness.y]));
+            println!("    eta {}\n    k   {}", hex_floats(spectra.eta), hex_floats(spectra.k));
+            println!("    in  {}\n    here {}\n    rust {}", hex_floats(&row.input), hex_floats(o), hex_floats(&row.output));
+        }
+        if print && (n != self.count() || past || changed) {
+            println!("  rulvimba_bounces: answers {n} for {} bounces; wrote past them: {past}; wrote to its input: {changed}", self.count());
+        }
+        wrong.len() + (n != self.count()) as usize + past as usize + changed as usize
+    }
+}
+
+// ---- the walk through both calls
+
+struct Library {
+    rng: Rng,
+    /// For each surface, the bounces that wait for a call of `rulvimba_bounces`.
+    waiting: Vec<Vec<Row>>,
+    /// Bounces on a kind that is neither metal nor glass, beside those of the walk.
+    other_kinds: usize,
+    /// Differences in them, and in memory that a bounce had to keep.
+    aside: usize,
+    many: usize,
+    calls: usize,
+    many_differences: usize,
+}
+
+impl Library {
+    fn new(seed: u64) -> Self {
+        Self { rng: Rng(seed ^ 0x11b), waiting: vec![], other_kinds: 0, aside: 0, many: 0, calls: 0, many_differences: 0 }
+    }
+
+    /// One bounce on a path in memory.
+    fn one(&mut self, kind: u64, s: &Surface, p: &Path, b: &Bounce) -> (Bounced, [u64; OUTS]) {
+        let mut held = Guarded::new(p);
+        let r = rulvimba::bounce(&mut held.path, surface(kind, s.a), spectra(s), arguments(b));
+        if !held.is_kept(p, r.number != 0) {
+            self.aside += 1;
+            if self.aside <= 3 {
+                println!("  rulvimba_bounce, number {}: memory that must be kept is not as it was", r.number);
+                println!("    in  {}", hex_floats(&words_in(p, b)));
+            }
+        }
+        (bounced(&r, &held.path), words(&r, &held.path))
+    }
+
+    fn one_of_other_kind(&mut self, of: &Lumo, p: &Path, b: &Bounce) {
+        let kind = other_kind(&mut self.rng);
+        let words = self.one(kind, &of.surface, p, b).1;
+        let rust = refused(1, p);
+        self.other_kinds += 1;
+        if words != rust.words() {
+            self.aside += 1;
+            if self.aside <= 3 {
+                report(&format!("rulvimba_bounce on kind {kind}"), p, of, b, &words, Some(&rust));
+            }
+        }
+    }
+
+    /// What waits on a surface goes through `rulvimba_bounces`, in calls of more and of less room than it needs.
+    fn run_waiting(&mut self, which: usize, s: &Surface) {
+        let waiting = std::mem::take(&mut self.waiting[which]);
+        let mut rows = &waiting[..];
+        while !rows.is_empty() {
+            let rng = &mut self.rng;
+            let room = match rng.below(8) {
+                0 => rng.below(rows.len() + 1),
+                1 => rows.len() + rng.below(3),
+                _ => rows.len(),
+            };
+            let call = Many { rows, room, input_more: rng.below(BOUNCE_IN), output_more: rng.below(BOUNCE_OUT) };
+            if rng.below(16) == 0 {
+                let refused: Vec<Row> = rows.iter().map(|r| r.refused(1)).collect();
+                self.other_kinds += call.count();
+                let of = surface(other_kind(rng), s.a);
+                self.many_differences += Many { rows: &refused, ..call }.differences(of, spectra(s), self.many_differences < 3);
+            }
+            let of = surface(s.glass as u64, s.a);
+            self.many_differences += call.differences(of, spectra(s), self.many_differences < 3);
+            self.many += call.count();
+            self.calls += 1;
+            rows = &rows[call.count()..];
+        }
+    }
+}
+
+impl Subject for Library {
+    const NAME: &'static str = "rulvimba_bounce";
+
+    fn bounce(&mut self, p: &Path, which: usize, of: &Lumo, b: &Bounce, rust: Option<&Bounced>) -> (Bounced, [u64; OUTS]) {
+        if self.rng.below(64) == 0 {
+            self.one_of_other_kind(of, p, b);
+        }
+        self.waiting.resize_with(self.waiting.len().max(which + 1), Vec::new);
+        // where the Rust panics there is nothing to hold an answer against: the walk counts a difference
+        if let Some(rust) = rust {
+            let row = Row::new(&mut self.rng, p, b, rust);
+            self.waiting[which].push(row);
+        }
+        // else they wait until the surfaces change
+        if self.rng.below(64) == 0 {
+            self.run_waiting(which, &of.surface);
+        }
+        self.one(of.surface.glass as u64, &of.surface, p, b)
+    }
+
+    fn surfaces_end(&mut self, of: &[Lumo]) {
+        for which in 0..self.waiting.len() {
+            self.run_waiting(which, &of[which].surface);
+        }
+    }
+}
+
+fn compare_bounces(seed: u64, count: usize) -> (usize, usize) {
+    let mut library = Library::new(seed);
+    let c = walk(seed, count, &mut library);
+    c.print(Library::NAME);
+    println!("  on kinds that are neither metal nor glass {}; differences there and in memory that must be kept {}", library.other_kinds, library.aside);
+    println!("{:<44} {:>9} bounces {:>5} differences, in {} calls", "rulvimba_bounces", library.many, library.many_differences, library.calls);
+    (c.bounces, c.differences + library.aside + library.many_differences)
+}
+
+// ---- starts
+
+fn compare_starts(seed: u64, count: usize) -> usize {
+    let rng = &mut Rng(seed ^ 0x57a8);
+    let (mut differences, mut refused) = (0, 0);
+    for i in 0..count {
+        let lambda = start_input(rng, i);
+        let rust = rust_start(lambda);
+        let number = if rust.is_some() { 0 } else { 4 };
+        // what stood there before, which a refusal leaves
+        let old = Path { lambda: start_input(rng, i), power: Color([0.25, -0.0, f64::NAN, f64::from_bits(rng.next())]) };
+        let mut held = Guarded::new(&old);
+        let n = rulvimba::start(&mut held.path, c4(lambda));
+        let expected = rust.unwrap_or(old).words();
+        refused += (number != 0) as usize;
+        if n != number || !held.is_kept(&old, number != 0) || eight(&held.path).map(bits) != expected {
+            differences += 1;
+            if differences <= 3 {
+                println!("  rulvimba_start\n    in  {}\n    here {n} rust {number}", hex_floats(&lambda.0));
+            }
+        }
+    }
+    println!("{:<44} {count:>9} inputs {differences:>6} differences, {refused} refused", "rulvimba_start");
+    differences
+}
+
+// ---- the other calls
+
+/// The kind of an input's surface: now and then it is neither metal nor glass.
+fn kind(w: &[f64]) -> u64 {
+    let rng = &mut Rng(w.iter().fold(0, |h, x| h.rotate_left(7) ^ x.to_bits()));
+    if rng.below(32) == 0 { other_kind(rng) } else { fields(w).glass as u64 }
+}
+
+fn lent<'a>(f: &Fields<'a>) -> Spectra<'a> {
+    Spectra { eta: f.eta, k: f.k }
+}
+
+fn v3(w: &[f64]) -> rulvimba::Vec3 {
+    rulvimba::Vec3 { x: w[0], y: w[1], z: w[2] }
+}
+
+fn put(number: u64, values: &[f64], out: &mut [u64]) {
+    out[0] = number;
+    for (o, x) in out[1..].iter_mut().zip(values) {
+        *o = bits(*x);
+    }
+}
+
+fn put_float(a: Answer<f64>, out: &mut [u64]) {
+    put(a.number, &[a.value], out)
+}
+
+fn put_direction(r: DirectionResult, out: &mut [u64]) {
+    put(r.number, &[0.0, r.direction.x, r.direction.y, r.direction.z], out);
+    out[1] = r.outcome;
+}
+
+/// The function of a table, for its inputs and the Rust's answer.
+fn named(name: &str) -> Function {
+    let mut all = super::families();
+    let at = all.iter().position(|f| f.name == name).unwrap();
+    all.swap_remove(at)
+}
+
+/// How the library is called on a surface, its spectra and the words behind them.
+type OnSurface = fn(rulvimba::Surface, Spectra, &[f64], &mut [u64]);
+
+/// A call of the library beside the checked call that it is. A kind that is neither is refused as 1.
+fn on_surface(name: &'static str, checked: &str, here: OnSurface) -> Function {
+    let f = named(checked);
+    let rust = f.rust;
+    Function {
+        name,
+        here: Box::new(move |w, out| {
+            let f = fields(w);
+            here(surface(kind(w), f.a), lent(&f), &w[SURFACE..], out)
+        }),
+        rust: Box::new(move |w, out| match kind(w) {
+            METAL | GLASS => rust(w, out),
+            _ => {
+                out.fill(0);
+                out[0] = 1;
+            }
+        }),
+        ..f
+    }
+}
+
+/// The mirror and the bend. Where a direction, none or total are given the library counts them from 1.
+fn without_surface(name: &'static str, checked: &str, here: fn(&[f64]) -> DirectionResult) -> Function {
+    let f = named(checked);
+    let rust = f.rust;
+    Function {
+        name,
+        here: Box::new(move |w, out| put_direction(here(&w[SURFACE..]), out)),
+        rust: Box::new(move |w, out| {
+            rust(w, out);
+            out[1] += (out[0] == 0) as u64;
+        }),
+        ..f
+    }
+}
+
+/// The check of a surface alone, on surfaces as the other calls get them.
+fn check_surface() -> Function {
+    let f = on_surface("rulvimba_check_surface", "optics_checked_is_delta", |s, of, _, out| out[0] = rulvimba::check_surface(s, of));
+    let rust = f.rust;
+    Function {
+        outs: 1,
+        rust: Box::new(move |w, out| {
+            let mut both = [0; 2];
+            rust(w, &mut both);
+            out[0] = both[0];
+        }),
+        ..f
+    }
+}
+
+fn lookup() -> Function {
+    let here = |w: &[f64], out: &mut [u64]| put_float(rulvimba::lookup(&w[1..1 + w[0] as usize], w[MOST + 1]), out);
+    Function { name: "rulvimba_lookup", here: Box::new(here), ..named("numbers_checked_lookup") }
+}
+
+fn other_calls() -> Vec<Function> {
+    let make: OnSurface = |s, of, _, out| {
+        let m = rulvimba::make_surface(s.kind, s.roughness.x, of);
+        put(m.number, &[0.0, m.value.roughness.x, m.value.roughness.y], out);
+        out[1] = m.value.kind;
+    };
+    let fresnel: OnSurface = |s, of, w, out| {
+        let f = rulvimba::fresnel(s, of, v3(w), v3(&w[3..]), c4(Color::get(&w[6..])));
+        put(f.number, &four(f.value), out)
+    };
+    let sample: OnSurface = |s, of, w, out| {
+        let n = rulvimba::sample_normal(s, of, v3(w), w[3], w[4], w[5]);
+        put(n.number, &three(n.value), out)
+    };
+    vec![
+        on_surface("rulvimba_make_surface", "optics_checked_make_surface", make),
+        check_surface(),
+        lookup(),
+        on_surface("rulvimba_lambda", "optics_checked_lambda", |s, of, w, out| put_float(rulvimba::lambda(s, of, v3(w)), out)),
+        on_surface("rulvimba_g1", "optics_checked_g1", |s, of, w, out| put_float(rulvimba::g1(s, of, v3(w), v3(&w[3..])), out)),
+        on_surface("rulvimba_g", "optics_checked_g", |s, of, w, out| {
+            put_float(rulvimba::g(s, of, v3(w), v3(&w[3..]), v3(&w[6..])), out)
+        }),
+        on_surface("rulvimba_d", "optics_checked_d", |s, of, w, out| put_float(rulvimba::d(s, of, v3(w)), out)),
+        on_surface("rulvimba_fresnel_at", "optics_checked_f_at", |s, of, w, out| {
+            put_float(rulvimba::fresnel_at(s, of, v3(w), v3(&w[3..]), w[6]), out)
+        }),
+        on_surface("rulvimba_fresnel", "optics_checked_f", fresnel),
+        on_surface("rulvimba_sample_normal", "optics_checked_sample_normal", sample),
+        without_surface("rulvimba_reflect", "optics_checked_reflect", |w| rulvimba::reflect(v3(w), v3(&w[3..]))),
+        without_surface("rulvimba_refract", "optics_checked_refract", |w| rulvimba::refract(w[0], v3(&w[1..]), v3(&w[4..]))),
+        on_surface("rulvimba_density", "optics_checked_pdf", |s, of, w, out| {
+            put_float(rulvimba::density(s, of, v3(w), v3(&w[3..]), w[6] != 0.0, w[7]), out)
+        }),
+    ]
+}
+
+/// `bounces` bounces through both calls, and a tenth as many inputs for each of the others; answers the number
+/// of differences.
+pub fn compare(seed: u64, bounces: usize) -> usize {
+    let each = bounces / 10;
+    let mut others = each;
+    let mut differences = 0;
+    for f in other_calls() {
+        differences += f.compare(seed, each);
+        others += each;
+    }
+    differences += compare_starts(seed, each);
+    let (run, of_bounces) = compare_bounces(seed, bounces);
+    differences += of_bounces;
+    println!("compare: librulvimba: {run} bounces, {others} other calls, {differences} differences, seed {seed}");
+    differences
+}
