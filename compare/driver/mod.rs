@@ -2,11 +2,12 @@
 //!
 //! With no words, a million inputs for each function. A number: so many. --gate: fewer, for a gate.
 //! --seed N: other inputs. --library: the static library alone, ten million bounces or as many as a number says.
-//! --sample FOLDER: writes the Rust's answers. --bench: times.
+//! --sample FOLDER: writes the Rust's answers. --bench: times. --rays [JOB]: the program `rays` in Rust.
 mod bench;
 #[macro_use]
 mod harness;
 mod inputs;
+mod job;
 mod library;
 mod numbers;
 mod optics;
@@ -58,6 +59,7 @@ pub fn main() {
             "--library" => of_library = true,
             "--seed" => seed = words.next().and_then(|w| w.parse().ok()).expect("--seed N"),
             "--sample" => return sample(seed, &words.next().expect("--sample FOLDER")),
+            "--rays" => return job::program(words.next(), job::PLAIN),
             "--bench" => return bench::bench(seed, &families()),
             n => count = Some(n.parse().expect("a number of inputs")),
         }
@@ -65,7 +67,7 @@ pub fn main() {
     let differences = if of_library {
         library::compare(seed, count.unwrap_or(10_000_000))
     } else if gate {
-        compare(seed, 50_000) + library::compare(seed, GATE_BOUNCES)
+        compare(seed, 50_000) + library::compare(seed, GATE_BOUNCES) + job::compare_example()
     } else {
         compare(seed, count.unwrap_or(1_000_000))
     };

@@ -73,8 +73,8 @@ impl Words for Scattered {
 #[derive(Clone, Copy)]
 #[repr(C)]
 pub struct Checked<T> {
-    number: u64,
-    value: T,
+    pub number: u64,
+    pub value: T,
 }
 
 impl<T: Words> Checked<T> {
@@ -452,20 +452,28 @@ fn v3(w: &[f64]) -> Vec3 {
     Vec3::new(w[0], w[1], w[2])
 }
 
-/// The value where no check refuses, and otherwise the number of the first that does.
+/// The value where neither the surface nor a check refuses, and otherwise the number of the first that does.
 fn checked<T: Words>(f: &Fields, checks: &[(u64, bool)], zero: T, value: impl FnOnce() -> T) -> Checked<T> {
     let surface = f.refused();
     if surface != 0 {
         return Checked { number: surface, value: zero };
     }
+    accepted(checks, zero, value)
+}
+
+/// The same on a surface that is accepted.
+fn accepted<T: Words>(checks: &[(u64, bool)], zero: T, value: impl FnOnce() -> T) -> Checked<T> {
     match checks.iter().find(|c| !c.1) {
         Some((number, _)) => Checked { number: *number, value: zero },
         None => Checked { number: 0, value: value() },
     }
 }
 
-/// A value that is a number, and else 9.
-fn finite_only(c: Checked<f64>) -> Checked<f64> {
+/// lumo's density on a surface that is accepted: refused 5, then 4, and 9 where it isn't finite.
+pub fn density(of: &BxDF, wo: Vec3, wi: Vec3, reflection: bool, wl: f64) -> Checked<f64> {
+    let checks = [(5, is_direction(wo) && is_direction(wi)), (4, is_wavelength(wl))];
+    let wls = ColorWavelength { lambda: [wl, 0.0, 0.0, 0.0] };
+    let c = accepted(&checks, 0.0, || of.pdf(wo, wi, reflection, &wls));
     if c.number == 0 && !c.value.is_finite() { Checked { number: 9, value: 0.0 } } else { c }
 }
 
@@ -595,10 +603,11 @@ refusing! {
     961 "optics_checked_pdf" [Wo, Wi, Flag] + 1 -> 2,
         |f, w, out| call!(optics_checked_pdf, f, v3(w), v3(&w[3..]), w[6] != 0.0, w[7]).put(out),
         |f, w, out| {
-            let (wo, wi) = (v3(w), v3(&w[3..]));
-            let checks = [(5, is_direction(wo) && is_direction(wi)), (4, is_wavelength(w[7]))];
-            let wls = ColorWavelength { lambda: [w[7], 0.0, 0.0, 0.0] };
-            finite_only(checked(f, &checks, 0.0, || f.rust().pdf(wo, wi, w[6] != 0.0, &wls))).put(out)
+            let answer = match f.refused() {
+                0 => density(f.rust(), v3(w), v3(&w[3..]), w[6] != 0.0, w[7]),
+                number => Checked { number, value: 0.0 },
+            };
+            answer.put(out)
         };
     // roughness x, raised, is the one number
     962 "optics_checked_make_surface" [] + 0 -> 4,
@@ -655,9 +664,15 @@ fn at_hand(l: f64) -> f64 {
     if is_lookup(l) { l } else { 400.0 }
 }
 
-/// `MicrofacetConfig::new`, whose assertion is the refusal 1.
+/// A surface of the roughness `f.a.x`, as words.
 fn rust_make_surface(f: &Fields) -> [u64; 4] {
-    let refused = |n| [n, 0, 0, 0];
+    let made = make_surface(f);
+    [made.number, (made.number == 0 && f.glass) as u64, bits(made.value.x), bits(made.value.y)]
+}
+
+/// x and y roughness by `MicrofacetConfig::new`, whose assertion is the refusal 1; then 2 and 3.
+pub fn make_surface(f: &Fields) -> Checked<Vec2> {
+    let refused = |number| Checked { number, value: Vec2::new(0.0, 0.0) };
     let made = caught(|| {
         let one = crate::tracer::DenseSpectrum::from_constant;
         let t = crate::tracer::Texture::default;
@@ -670,7 +685,7 @@ fn rust_make_surface(f: &Fields) -> [u64; 4] {
     if k_refused(f.glass, f.k) {
         return refused(3);
     }
-    [0, f.glass as u64, bits(a.x), bits(a.y)]
+    Checked { number: 0, value: a }
 }
 
 fn put_checked(c: CheckedOutgoing, out: &mut [u64]) {

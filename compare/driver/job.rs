@@ -1,0 +1,375 @@
+//! `rays` in Rust: a job in, figures out (docs/RAYS.md has the format). It streams as `rays` does, and holds
+//! nothing but the surfaces and the paths. The bounce is a parameter: the driver's own answer, or the plain one.
+use super::optics::{density, make_surface, Color, Fields};
+use super::path::{plain, rust, rust_start, Bounce, Bounced, Lumo, Path, LOST, REFUSED};
+use super::harness::bits;
+use crate::{Vec2, Vec3};
+use std::io::{self, BufRead, BufReader, BufWriter, Read, Write};
+
+/// What answers a bounce.
+pub type Answer = fn(&Path, &Lumo, &Bounce) -> Bounced;
+
+/// lumo's functions and document 01, as the comparison has them: the sampler runs twice.
+pub const OWN: Answer = rust;
+/// The bounce that the benchmark times.
+pub const PLAIN: Answer = |p, of, b| plain(*p, &of.surface, *b);
+
+const SURFACES: usize = 64;
+const PATHS: usize = 1024;
+const LINE_MAX: usize = 4096;
+/// The most entries of a spectrum that a line can have.
+const ENTRIES: usize = 256;
+
+// ---- the words of a line
+
+/// What is wrong with a line, and the number of the word.
+pub struct Fault {
+    word: usize,
+    what: &'static str,
+}
+
+type Reading<T> = Result<T, Fault>;
+
+struct Line<'a> {
+    rest: &'a [u8],
+    words: usize,
+}
+
+fn is_blank(b: u8) -> bool {
+    matches!(b, b' ' | b'\t' | b'\r')
+}
+
+/// The value of each hexadecimal digit, and 16 for any other byte.
+const DIGITS: [u8; 256] = {
+    let mut all = [16; 256];
+    let mut d = 0;
+    while d < 16 {
+        all[b"0123456789abcdef"[d] as usize] = d as u8;
+        all[b"0123456789ABCDEF"[d] as usize] = d as u8;
+        d += 1;
+    }
+    all
+};
+
+fn hex(word: &[u8]) -> Option<u64> {
+    let mut value = 0;
+    for b in <&[u8; 16]>::try_from(word).ok()? {
+        let digit = DIGITS[*b as usize];
+        if digit > 15 {
+            return None;
+        }
+        value = value << 4 | digit as u64;
+    }
+    Some(value)
+}
+
+/// At most four decimal digits.
+fn decimal(word: &[u8]) -> Option<usize> {
+    if word.len() > 4 || !word.iter().all(u8::is_ascii_digit) {
+        return None;
+    }
+    Some(word.iter().fold(0, |n, d| n * 10 + (d - b'0') as usize))
+}
+
+impl<'a> Line<'a> {
+    /// The next word, which isn't passed; none at the line's end or a comment.
+    fn peek(&mut self) -> Option<&'a [u8]> {
+        let from = self.rest.iter().position(|b| !is_blank(*b)).unwrap_or(self.rest.len());
+        self.rest = &self.rest[from..];
+        if matches!(self.rest.first(), None | Some(b'#')) {
+            return None;
+        }
+        let end = self.rest.iter().position(|b| is_blank(*b)).unwrap_or(self.rest.len());
+        Some(&self.rest[..end])
+    }
+
+    fn next(&mut self) -> Option<&'a [u8]> {
+        let word = self.peek();
+        self.words += 1;
+        self.rest = &self.rest[word.map_or(0, <[u8]>::len)..];
+        word
+    }
+
+    fn wrong<T>(&self, what: &'static str) -> Reading<T> {
+        Err(Fault { word: self.words, what })
+    }
+
+    fn word(&mut self) -> Reading<&'a [u8]> {
+        match self.next() {
+            Some(word) => Ok(word),
+            None => self.wrong("the line ends too soon"),
+        }
+    }
+
+    fn keyword(&mut self, name: &[u8], what: &'static str) -> Reading<()> {
+        if self.word()? == name { Ok(()) } else { self.wrong(what) }
+    }
+
+    fn index(&mut self, limit: usize, what: &'static str) -> Reading<usize> {
+        match decimal(self.word()?) {
+            Some(i) if i < limit => Ok(i),
+            _ => self.wrong(what),
+        }
+    }
+
+    fn surface(&mut self) -> Reading<usize> {
+        self.index(SURFACES, "a surface's index is from 0 to 63")
+    }
+
+    fn path(&mut self) -> Reading<usize> {
+        self.index(PATHS, "a path's index is from 0 to 1023")
+    }
+
+    fn flag(&mut self) -> Reading<bool> {
+        Ok(self.index(2, "a flag is 0 or 1")? == 1)
+    }
+
+    fn is_glass(&mut self) -> Reading<bool> {
+        match self.word()? {
+            b"metal" => Ok(false),
+            b"glass" => Ok(true),
+            _ => self.wrong("a kind is metal or glass"),
+        }
+    }
+
+    fn number(&mut self) -> Reading<f64> {
+        match hex(self.word()?) {
+            Some(bits) => Ok(f64::from_bits(bits)),
+            None => self.wrong("a number is 16 hexadecimal digits"),
+        }
+    }
+
+    fn numbers<const N: usize>(&mut self) -> Reading<[f64; N]> {
+        let mut all = [0.0; N];
+        for x in &mut all {
+            *x = self.number()?;
+        }
+        Ok(all)
+    }
+
+    fn vec3(&mut self) -> Reading<Vec3> {
+        let [x, y, z] = self.numbers()?;
+        Ok(Vec3::new(x, y, z))
+    }
+
+    /// A spectrum, which ends before a word of one letter: its entries, of which one stands for all.
+    fn entries(&mut self) -> Reading<Vec<f64>> {
+        let mut all = vec![];
+        while all.len() < ENTRIES && self.peek().is_some_and(|word| word.len() > 1) {
+            all.push(self.number()?);
+        }
+        Ok(if all.len() == 1 { vec![all[0]; 95] } else { all })
+    }
+
+    fn end(&mut self) -> Reading<()> {
+        if self.next().is_none() { Ok(()) } else { self.wrong("the line goes on") }
+    }
+}
+
+// ---- figures
+
+fn number(out: &mut impl Write, x: f64) -> io::Result<()> {
+    let bits = bits(x);
+    let mut text = [b' '; 17];
+    for (i, digit) in text[1..].iter_mut().enumerate() {
+        *digit = b"0123456789abcdef"[(bits >> (60 - 4 * i)) as usize & 15];
+    }
+    out.write_all(&text)
+}
+
+/// A label and its numbers.
+fn labelled(out: &mut impl Write, label: &[u8], values: &[f64]) -> io::Result<()> {
+    out.write_all(label)?;
+    values.iter().try_for_each(|x| number(out, *x))
+}
+
+fn refused(out: &mut impl Write, number: u64) -> io::Result<()> {
+    writeln!(out, " refused {number}")
+}
+
+fn figures(out: &mut impl Write, a: &Bounced) -> io::Result<()> {
+    match a.case {
+        REFUSED => return refused(out, a.number),
+        LOST => out.write_all(b" lost")?,
+        case => {
+            out.write_all(if case == super::path::REFLECTED { b" reflected" } else { b" passed" })?;
+            labelled(out, b" wi", &[a.wi.x, a.wi.y, a.wi.z])?;
+            if a.density.finite {
+                labelled(out, b" density", &[a.density.value])?;
+            } else {
+                out.write_all(b" density not finite")?;
+            }
+        }
+    }
+    if a.shares.there {
+        labelled(out, b" shares", &[a.shares.reflected, a.shares.passed])?;
+    } else {
+        out.write_all(b" shares none")?;
+    }
+    labelled(out, b" lambda", &a.path.lambda.0)?;
+    labelled(out, b" power", &a.path.power.0)?;
+    out.write_all(b"\n")
+}
+
+// ---- commands
+
+/// What a job holds.
+pub struct Held {
+    answer: Answer,
+    pub surfaces: Vec<Option<Lumo>>,
+    paths: Vec<Option<Path>>,
+}
+
+impl Held {
+    pub fn new(answer: Answer) -> Self {
+        Self { answer, surfaces: (0..SURFACES).map(|_| None).collect(), paths: vec![None; PATHS] }
+    }
+
+    fn surface(&mut self, line: &mut Line, out: &mut impl Write) -> Reading<io::Result<()>> {
+        let i = line.surface()?;
+        let glass = line.is_glass()?;
+        let roughness = line.number()?;
+        line.keyword(b"eta", "the word eta is missing")?;
+        let eta = line.entries()?;
+        line.keyword(b"k", "the word k is missing")?;
+        let k = line.entries()?;
+        line.end()?;
+        let made = make_surface(&Fields { glass, a: Vec2::splat(roughness), eta: &eta, k: &k });
+        if made.number == 0 {
+            self.surfaces[i] = Some(Lumo::new(glass, made.value, &eta, &k));
+        }
+        Ok(write!(out, " surface {i}").and_then(|_| ok_or_refused(out, made.number)))
+    }
+
+    fn start(&mut self, line: &mut Line, out: &mut impl Write) -> Reading<io::Result<()>> {
+        let i = line.path()?;
+        let lambda = Color(line.numbers()?);
+        line.end()?;
+        let started = rust_start(lambda);
+        if started.is_some() {
+            self.paths[i] = started;
+        }
+        Ok(write!(out, " start {i}").and_then(|_| ok_or_refused(out, if started.is_some() { 0 } else { 4 })))
+    }
+
+    fn bounce(&mut self, line: &mut Line, out: &mut impl Write) -> Reading<io::Result<()>> {
+        let (i, s) = (line.path()?, line.surface()?);
+        let backface = line.flag()?;
+        let (wo, normal) = (line.vec3()?, line.vec3()?);
+        let [u, disk, c, s_] = line.numbers()?;
+        let b = Bounce { wo, normal, backface, u, disk, c, s: s_, ks: Color(line.numbers()?), tf: Color(line.numbers()?) };
+        line.end()?;
+        let Some(path) = &mut self.paths[i] else { return Err(Fault { word: 2, what: "the path is not started" }) };
+        let Some(of) = &self.surfaces[s] else { return Err(Fault { word: 3, what: "the surface is not made" }) };
+        let a = (self.answer)(path, of, &b);
+        *path = a.path;
+        Ok(write!(out, " bounce {i}").and_then(|_| figures(out, &a)))
+    }
+
+    fn density(&mut self, line: &mut Line, out: &mut impl Write) -> Reading<io::Result<()>> {
+        let i = line.surface()?;
+        let reflection = line.flag()?;
+        let (wo, wi) = (line.vec3()?, line.vec3()?);
+        let lambda = line.number()?;
+        line.end()?;
+        let Some(of) = &self.surfaces[i] else { return Err(Fault { word: 2, what: "the surface is not made" }) };
+        let a = density(of.surface.rust.as_ref().unwrap(), wo, wi, reflection, lambda);
+        Ok(match a.number {
+            0 => labelled(out, format!(" density {i}").as_bytes(), &[a.value]).and_then(|_| out.write_all(b"\n")),
+            n => write!(out, " density {i}").and_then(|_| refused(out, n)),
+        })
+    }
+
+    /// Answers a line, without its line feed.
+    pub fn answer(&mut self, text: &[u8], at: usize, out: &mut impl Write) -> io::Result<()> {
+        let mut line = Line { rest: text, words: 0 };
+        let Some(command) = line.next() else { return Ok(()) };
+        write!(out, "{at}")?;
+        let answered = match command {
+            b"bounce" => self.bounce(&mut line, out),
+            b"density" => self.density(&mut line, out),
+            b"start" => self.start(&mut line, out),
+            b"surface" => self.surface(&mut line, out),
+            _ => line.wrong("unknown command"),
+        };
+        answered.unwrap_or_else(|fault| writeln!(out, " error {}: {}", fault.word, fault.what))
+    }
+}
+
+fn ok_or_refused(out: &mut impl Write, number: u64) -> io::Result<()> {
+    if number == 0 { out.write_all(b" ok\n") } else { refused(out, number) }
+}
+
+/// Reads a job to its end and writes its figures, what is read before more is waited for.
+pub fn run(job: impl Read, figures: impl Write, answer: Answer) -> io::Result<()> {
+    let mut job = BufReader::with_capacity(1 << 16, job);
+    let mut out = BufWriter::with_capacity(1 << 16, figures);
+    let mut held = Held::new(answer);
+    let mut text = vec![];
+    for at in 1.. {
+        if !job.buffer().contains(&b'\n') {
+            out.flush()?;
+        }
+        text.clear();
+        if job.by_ref().take(LINE_MAX as u64 + 1).read_until(b'\n', &mut text)? == 0 {
+            break;
+        }
+        if text.last() == Some(&b'\n') {
+            text.pop();
+        }
+        if text.len() > LINE_MAX {
+            writeln!(out, "{at} error 0: a line is at most {LINE_MAX} bytes")?;
+            job.skip_until(b'\n')?;
+        } else {
+            held.answer(&text, at, &mut out)?;
+        }
+    }
+    out.flush()
+}
+
+/// The Rust's program beside `rays`: a job from a file or from standard input.
+pub fn program(file: Option<String>, answer: Answer) {
+    let out = io::stdout().lock();
+    let done = match file {
+        Some(file) => std::fs::File::open(file).and_then(|job| run(job, out, answer)),
+        None => run(io::stdin().lock(), out, answer),
+    };
+    if let Err(why) = done {
+        eprintln!("driver: {why}");
+        std::process::exit(1);
+    }
+}
+
+// ---- the example's figures
+
+const JOB: &str = "examples/syringe.job";
+const FIGURES: &str = "examples/syringe.figures";
+
+/// The example's figures in the Rust, byte by byte beside those in the repository; answers the number of
+/// lines that differ.
+pub fn compare_example() -> usize {
+    let job = std::fs::read(JOB).unwrap();
+    let expected = std::fs::read(FIGURES).unwrap();
+    let mut differences = 0;
+    for (name, answer) in [("the driver's own bounce", OWN), ("the plain bounce", PLAIN)] {
+        let mut figures = vec![];
+        run(&job[..], &mut figures, answer).unwrap();
+        let wrong = lines_apart(&expected, &figures);
+        println!("{FIGURES}, {name}: {} bytes, {wrong} lines differ", figures.len());
+        differences += wrong;
+    }
+    differences
+}
+
+/// How many lines of two texts differ; the first is printed.
+pub fn lines_apart(ours: &[u8], rust: &[u8]) -> usize {
+    if ours == rust {
+        return 0;
+    }
+    let (ours, rust): (Vec<_>, Vec<_>) = (ours.split(|b| *b == b'\n').collect(), rust.split(|b| *b == b'\n').collect());
+    let none: &[u8] = b"";
+    let at = |lines: &[&[u8]], i: usize| String::from_utf8_lossy(lines.get(i).copied().unwrap_or(none)).into_owned();
+    let apart: Vec<usize> = (0..ours.len().max(rust.len())).filter(|i| ours.get(*i) != rust.get(*i)).collect();
+    println!("  line {}\n    here {}\n    rust {}", apart[0] + 1, at(&ours, apart[0]), at(&rust, apart[0]));
+    apart.len()
+}
