@@ -168,7 +168,8 @@ impl<'a> Line<'a> {
 
 // ---- figures
 
-fn number(out: &mut impl Write, x: f64) -> io::Result<()> {
+/// A blank and the number.
+pub fn number(out: &mut impl Write, x: f64) -> io::Result<()> {
     let bits = bits(x);
     let mut text = [b' '; 17];
     for (i, digit) in text[1..].iter_mut().enumerate() {

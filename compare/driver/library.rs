@@ -147,12 +147,17 @@ struct Row {
 }
 
 /// The answer's numbers in their places, whole numbers as doubles.
-fn output_of(a: &Bounced) -> [f64; BOUNCE_OUT] {
+pub fn output_of(a: &Bounced) -> [f64; BOUNCE_OUT] {
     let (l, w) = (a.path.lambda.0, a.path.power.0);
     [
         l[0], l[1], l[2], l[3], w[0], w[1], w[2], w[3], a.number as f64, a.case as f64, a.wi.x, a.wi.y, a.wi.z,
         a.density.finite as u8 as f64, a.density.value, a.shares.there as u8 as f64, a.shares.reflected, a.shares.passed,
     ]
+}
+
+/// The whole call, for the benchmark.
+pub fn run_bounces(s: &Surface, input: &[f64], output: &mut [f64]) {
+    rulvimba::bounces(surface(s.glass as u64, s.a), spectra(s), input, output);
 }
 
 impl Row {

@@ -3,7 +3,9 @@
 //! With no words, a million inputs for each function. A number: so many. --gate: fewer, for a gate.
 //! --seed N: other inputs. --library: the static library alone, ten million bounces or as many as a number says.
 //! --sample FOLDER: writes the Rust's answers. --bench: times. --rays [JOB]: the program `rays` in Rust.
+//! --bench-rays: times and memory of both programs.
 mod bench;
+mod bench_rays;
 #[macro_use]
 mod harness;
 mod inputs;
@@ -60,6 +62,7 @@ pub fn main() {
             "--seed" => seed = words.next().and_then(|w| w.parse().ok()).expect("--seed N"),
             "--sample" => return sample(seed, &words.next().expect("--sample FOLDER")),
             "--rays" => return job::program(words.next(), job::PLAIN),
+            "--bench-rays" => std::process::exit(!bench_rays::bench(seed) as i32),
             "--bench" => return bench::bench(seed, &families()),
             n => count = Some(n.parse().expect("a number of inputs")),
         }
