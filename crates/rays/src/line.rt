@@ -215,24 +215,19 @@ pub fn end(text: &[u8], c: Cursor) -> Cursor {
     b
 }
 
-// The value of a hexadecimal digit, and 16 for any other byte.
+// The value of a hexadecimal digit, and 16 for any other byte. The value is guessed from the byte's bits
+// and then looked at: whether a digit is a letter is no question to ask of each, since the digits of a
+// number follow no order that a processor could foresee.
 fn digit(b: u8) -> u64
     ensures { λ r. ⌜ r ≤ 16 ⌝ }
 {
-    if b >= b'0' {
-        if b <= b'9' {
-            return (b - b'0') as u64;
-        }
+    let v = b as u64;
+    let d = (v % 16 + v / 64 * 9) % 16;
+    if byte_at(b"0123456789abcdef", d as usize) == b {
+        return d;
     }
-    if b >= b'a' {
-        if b <= b'f' {
-            return (b - b'a') as u64 + 10;
-        }
-    }
-    if b >= b'A' {
-        if b <= b'F' {
-            return (b - b'A') as u64 + 10;
-        }
+    if byte_at(b"0123456789ABCDEF", d as usize) == b {
+        return d;
     }
     16
 }
