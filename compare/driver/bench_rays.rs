@@ -1,11 +1,11 @@
 //! Times and memory of the program `rays` beside its Rust on the same jobs, from file to figures; then of
 //! `rulvimba_bounces` beside the plain bounce, from array to array.
-use super::harness::timed;
+use super::harness::{bits, timed};
 use super::inputs::Rng;
 use super::job::{lines_apart, number, Held, PLAIN};
 use super::library;
-use super::path::{plain, usual_bounce, usual_path, words_in, Bounce, Path, INS, OUTS, REFLECTED};
 use super::optics::Color;
+use super::path::{plain, usual_bounce, usual_path, words_in, Bounce, Path, INS, OUTS, REFLECTED};
 use super::surfaces::Surface;
 use crate::Vec3;
 use std::fs::{self, File};
@@ -167,7 +167,7 @@ fn ran(program: &str, words: &[&str], figures: &str) -> io::Result<Ran> {
     Ok(Ran { clock, processor: seconds(usage.user) + seconds(usage.system), memory: usage.memory })
 }
 
-/// Whether two files have the same bytes; where they are apart, and small, the line is printed.
+/// Whether two files have the same bytes; where they are apart, the first line of that part is printed.
 fn same_bytes(ours: &str, rust: &str) -> io::Result<bool> {
     let (mut a, mut b) = (BufReader::with_capacity(1 << 20, File::open(ours)?), BufReader::with_capacity(1 << 20, File::open(rust)?));
     loop {
@@ -280,7 +280,7 @@ fn bench_memory(seed: u64) -> bool {
                 let ns = timed(ROWS, || if who == 0 { library::run_bounces(s, input, output) } else { plain_bounces(s, input, output) });
                 least[which][who] = least[which][who].min(ns);
             }
-            same &= outputs[0].iter().zip(&outputs[1]).all(|(x, y)| super::harness::bits(*x) == super::harness::bits(*y));
+            same &= outputs[0].iter().zip(&outputs[1]).all(|(x, y)| bits(*x) == bits(*y));
         }
     }
     let names = ["barrel, rough glass, varying eta", "needle, rough metal", "liquid, delta glass, constant eta"];

@@ -1,8 +1,8 @@
 //! `rays` in Rust: a job in, figures out (docs/RAYS.md has the format). It streams as `rays` does, and holds
 //! nothing but the surfaces and the paths. The bounce is a parameter: the driver's own answer, or the plain one.
-use super::optics::{density, make_surface, Color, Fields};
-use super::path::{plain, rust, rust_start, Bounce, Bounced, Lumo, Path, LOST, REFUSED};
 use super::harness::bits;
+use super::optics::{density, make_surface, Color, Fields};
+use super::path::{plain, rust, rust_start, Bounce, Bounced, Lumo, Path, LOST, REFLECTED, REFUSED};
 use crate::{Vec2, Vec3};
 use std::io::{self, BufRead, BufReader, BufWriter, Read, Write};
 
@@ -193,7 +193,7 @@ fn figures(out: &mut impl Write, a: &Bounced) -> io::Result<()> {
         REFUSED => return refused(out, a.number),
         LOST => out.write_all(b" lost")?,
         case => {
-            out.write_all(if case == super::path::REFLECTED { b" reflected" } else { b" passed" })?;
+            out.write_all(if case == REFLECTED { b" reflected" } else { b" passed" })?;
             labelled(out, b" wi", &[a.wi.x, a.wi.y, a.wi.z])?;
             if a.density.finite {
                 labelled(out, b" density", &[a.density.value])?;
@@ -254,14 +254,14 @@ impl Held {
     }
 
     fn bounce(&mut self, line: &mut Line, out: &mut impl Write) -> Reading<io::Result<()>> {
-        let (i, s) = (line.path()?, line.surface()?);
+        let (i, which) = (line.path()?, line.surface()?);
         let backface = line.flag()?;
         let (wo, normal) = (line.vec3()?, line.vec3()?);
-        let [u, disk, c, s_] = line.numbers()?;
-        let b = Bounce { wo, normal, backface, u, disk, c, s: s_, ks: Color(line.numbers()?), tf: Color(line.numbers()?) };
+        let [u, disk, c, s] = line.numbers()?;
+        let b = Bounce { wo, normal, backface, u, disk, c, s, ks: Color(line.numbers()?), tf: Color(line.numbers()?) };
         line.end()?;
         let Some(path) = &mut self.paths[i] else { return Err(Fault { word: 2, what: "the path is not started" }) };
-        let Some(of) = &self.surfaces[s] else { return Err(Fault { word: 3, what: "the surface is not made" }) };
+        let Some(of) = &self.surfaces[which] else { return Err(Fault { word: 3, what: "the surface is not made" }) };
         let a = (self.answer)(path, of, &b);
         *path = a.path;
         Ok(write!(out, " bounce {i}").and_then(|_| figures(out, &a)))
