@@ -1,20 +1,20 @@
 -- The root by a guess that is checked: nothing is assumed of the guess, and the exact test that follows is proved.
--- Proved: the test by the two parts of q places m * 2 ^ 52 among the squares of q - 1/2 and
--- q + 1/2, so `settle` answers 0 or the nearest whole root (`settled`);
--- the nearest is half of the 54 digits, rounded up, so the pattern that `sqrt` puts together is the root's (`guessed`, `fast-root`).
+-- Proved: the test by the two parts of q places m * 2 ^ 52 between the squares of q - 1/2 and
+-- q + 1/2, so a q that `is_nearest` accepts is the nearest whole root (`nearest`);
+-- the nearest is half of the 54 digits, rounded up, so a pattern with these digits is the root's (`guessed`, `fast-root`).
 use mathlib.Core.Path.{_≡_, sym, ap, _∙_, subst}
 use mathlib.Core.Logic.{_⊎_, inl, inr}
 use Prim.Native.Nat.{ℕ, zero, suc, _+_, _-_, _*_, _/_, _%_, _^_, _≤_, _<_}
 use native.Mathlib.Nat.{le-trans, lt-of-lt-of-le, lt-irrefl, mul-le-mul-left, mul-le-mul-right, mul-le-mul, zero-lt-suc}
 use native.Mathlib.Omega.{arith}
-use mathlib.Core.Bool.{Bool, true, false, not, cond}
+use mathlib.Core.Bool.{true, false, not}
 use lib.IntN.{pos}
-use lib.Dec.{T, leb, ltb, leb→le, nleb→lt, ltb→lt, nltb→le, lt→ltb, lit≤}
-use lib.Ieee.{Float, inf, fin, Format, binary64, ofBits, toBits, isNan, lt, eq, fits, up, down}
+use lib.Dec.{T, ltb→lt, lt→ltb, lit≤}
+use lib.Ieee.{Float, inf, fin, Format, binary64, ofBits, toBits, isNan, lt, fits, up, down}
 use lib.Ieee.Positive.{positive}
 use lib.Ieee.Bits.{ofBits-fits}
 use Rattle.numbers.specs.SquareRoot.{isqrt, rootOfUnits, squareRoot}
-use Rattle.numbers.specs.RootSteps.{Root, Nearest, Settled, RootFrom}
+use Rattle.numbers.specs.RootSteps.{Root, Nearest, RootFrom}
 use Rattle.numbers.proofs.Rounding.{below-or-from}
 use Rattle.numbers.proofs.Units.{Is, mag, unique}
 use Rattle.numbers.proofs.WholeRoot.{isqrt-root, sq-lt}
@@ -24,7 +24,7 @@ use denote.Floats.{passes}
 abbrev B : Format
 B = binary64
 
--- ---- `settle`: q is a * 2 ^ 27 + b, and its products fit
+-- ---- `is_nearest`: q is a * 2 ^ 27 + b, and its products fit
 a-le : (q : ℕ) → q < 2 ^ 53 → q / 2 ^ 27 ≤ 2 ^ 26
 a-le q h = omega arith
 
@@ -40,59 +40,25 @@ aa-le q h = mul-le-mul (a-le q h) (a-le q h)
 pub bb-le : (q : ℕ) → q % 2 ^ 27 * (q % 2 ^ 27) ≤ 2 ^ 54
 bb-le q = mul-le-mul (b-le q) (b-le q)
 
--- m * 2 ^ 52 less q * q, by the two parts of q
-apart : (m q a b u v k : ℕ) → q ≡ a * 2 ^ 27 + b → a * b ≡ u * 2 ^ 24 + v → m + 8 ≡ k + (4 * (a * a) + u)
-    → m * 2 ^ 52 + (v * 2 ^ 28 + b * b + 2 ^ 55) ≡ q * q + k * 2 ^ 52
-apart m q a b u v k h p e = let s : q * q ≡ a * a * 2 ^ 54 + a * b * 2 ^ 28 + b * b = ap (λ (z : ℕ). z * z) h ∙ square a b in omega arith
+-- m * 2 ^ 52 less q * q, by the two parts of q: j counts 2 ^ 52, k counts 2 ^ 28, and 8 * 2 ^ 52 is 2 ^ 55
+apart : (m q a b j k : ℕ) → q ≡ a * 2 ^ 27 + b → m + 8 ≡ j + 4 * (a * a) → j * 2 ^ 24 ≡ k + a * b
+    → m * 2 ^ 52 + (b * b + 2 ^ 55) ≡ q * q + k * 2 ^ 28
+apart m q a b j k h e f = let s : q * q ≡ a * a * 2 ^ 54 + a * b * 2 ^ 28 + b * b = ap (λ (z : ℕ). z * z) h ∙ square a b in omega arith
   where
     square : (a b : ℕ) → (a * 2 ^ 27 + b) * (a * 2 ^ 27 + b) ≡ a * a * 2 ^ 54 + a * b * 2 ^ 28 + b * b
     square a b = omega arith
 
--- the three answers, where d is n - q * q + 3 * q
-choose : (n q d : ℕ) → d + q * q ≡ n + 3 * q → 2 < d → d ≤ 6 * q + 2 → 1 ≤ q → (b c : Bool) → (T b → 4 * q < d) → (T (not b) → d ≤ 4 * q)
-    → (T c → d ≤ 2 * q) → (T (not c) → 2 * q < d)
-    → (r : ℕ) → r ≡ q + cond b 1 0 - cond c 1 0 → (r ≤ q + 1) × Nearest r n
-choose n q d e l u o true true f g h k r s = absurd (let x = f tt in let y = h tt in omega arith)
-choose n q d e l u o true false f g h k r s =
-    let x = f tt in let z : r ≡ q + 1 = omega arith in (omega arith, subst (λ (y : ℕ). Nearest y n) (sym z) (omega arith))
-choose n q d e l u o false false f g h k r s =
-    let x = g tt in let y = k tt in let z : r ≡ q = omega arith in (omega arith, subst (λ (y : ℕ). Nearest y n) (sym z) (omega arith))
-choose n q d e l u o false true f g h k r s =
-    let x = h tt in
-    let z : q ≡ r + 1 = omega arith in
-    let w : q * q ≡ (r + 1) * (r + 1) = ap (λ (y : ℕ). y * y) z in (omega arith, (omega arith, omega arith))
-
-pub settled : (m q k u₁ d₁ : ℕ) → q < 2 ^ 53 → 1 ≤ q → m + 8 ≡ k + (4 * (q / 2 ^ 27 * (q / 2 ^ 27)) + q / 2 ^ 27 * (q % 2 ^ 27) / 2 ^ 24)
-    → (w t : ℕ) → w ≡ k * 2 ^ 52 + 3 * q → t ≡ q / 2 ^ 27 * (q % 2 ^ 27) % 2 ^ 24 * 2 ^ 28 + q % 2 ^ 27 * (q % 2 ^ 27) + 2 ^ 55
-    → t + 2 < w → w - t ≤ 6 * q + 2 → u₁ ≡ cond (ltb (4 * q) (w - t)) 1 0 → d₁ ≡ cond (leb (w - t) (2 * q)) 1 0 → Settled m (q + u₁ - d₁)
-settled m q k u₁ d₁ h o e w t we te l u s₁ s₂ =
-    let a = q / 2 ^ 27 in
-    let b = q % 2 ^ 27 in
-    let ab = a * b in
-    let d = w - t in
-    let x = apart m q a b (ab / 2 ^ 24) (ab % 2 ^ 24) k (parts q) (low ab) e in
-    let z =
-    choose (m * 2 ^ 52) q d
-    (gap (m * 2 ^ 52) (q * q) (k * 2 ^ 52) q w t we (subst (λ (y : ℕ). m * 2 ^ 52 + y ≡ q * q + k * 2 ^ 52) (sym te) x) l)
-    (over w t l) u o
-    (ltb (4 * q) d) (leb d (2 * q)) (ltb→lt (4 * q) d) (nltb→le (4 * q) d) (leb→le d (2 * q)) (nleb→lt d (2 * q))
-    (q + u₁ - d₁) (ap (λ (y : ℕ). q + y - d₁) s₁ ∙ ap (λ (y : ℕ). q + cond (ltb (4 * q) d) 1 0 - y) s₂) in
-    record { top = le-trans (z .0) (up-one q h); right = λ (p : 0 < q + u₁ - d₁). z .1 }
+pub nearest : (m q j k : ℕ) → m + 8 ≡ j + 4 * (q / 2 ^ 27 * (q / 2 ^ 27)) → j * 2 ^ 24 ≡ k + q / 2 ^ 27 * (q % 2 ^ 27)
+    → (w t : ℕ) → w ≡ k * 2 ^ 28 + q → t ≡ q % 2 ^ 27 * (q % 2 ^ 27) + 2 ^ 55 → t < w → w - t ≤ 2 * q → Nearest q (m * 2 ^ 52)
+nearest m q j k e f w t we te l u =
+    between (m * 2 ^ 52) (q * q) (k * 2 ^ 28) q w t we
+    (subst (λ (y : ℕ). m * 2 ^ 52 + y ≡ q * q + k * 2 ^ 28) (sym te) (apart m q (q / 2 ^ 27) (q % 2 ^ 27) j k (parts q) e f)) l u
   where
     parts : (q : ℕ) → q ≡ q / 2 ^ 27 * 2 ^ 27 + q % 2 ^ 27
     parts q = omega arith
 
-    low : (p : ℕ) → p ≡ p / 2 ^ 24 * 2 ^ 24 + p % 2 ^ 24
-    low p = omega arith
-
-    up-one : (q : ℕ) → q < 2 ^ 53 → q + 1 ≤ 2 ^ 53
-    up-one q h = omega arith
-
-    over : (w t : ℕ) → t + 2 < w → 2 < w - t
-    over w t h = omega arith
-
-    gap : (n s k q w t : ℕ) → w ≡ k + 3 * q → n + t ≡ s + k → t + 2 < w → w - t + s ≡ n + 3 * q
-    gap n s k q w t a b c = omega arith
+    between : (n s k q w t : ℕ) → w ≡ k + q → n + t ≡ s + k → t < w → w - t ≤ 2 * q → (s < n + q) × (n ≤ s + q)
+    between n s k q w t a b c d = (omega arith, omega arith)
 
 -- ---- the nearest is half the root of four times the number, rounded up
 nearest-is-half : (q Q n : ℕ) → Nearest q n → Root Q (n * 4) → (Q + 1) / 2 ≡ q
@@ -192,13 +158,9 @@ above-zero x e = go x (subst (λ (z : Float). T (lt z x)) zero-bits (passes (lt 
         none u d h = omega arith
     go (fin false (suc m) i) t = (tt, λ h. lt→ltb 0 (suc m) (zero-lt-suc m))
 
-pub same-number : (x : Float) → eq x x ≡ true → T (not (isNan x))
-unfolding eq isNan
-same-number x e = go x (passes (eq x x) e)
-  where
-    go : (x : Float) → T (eq x x) → T (not (isNan x))
-    go (inf s) t = tt
-    go (fin s m i) t = tt
+pub positive-number : (x : Float) → T (positive x) → T (not (isNan x))
+unfolding isNan
+positive-number (fin false m i) t = tt
 
 pub fast-root : (x : Float) (q : ℕ) → T (positive x) → T (fits B x) → 0 < toBits B x / 2 ^ 52 → toBits B x / 2 ^ 52 < 2047
     → Nearest q ((toBits B x % 2 ^ 52 + 2 ^ 52) * (2 - toBits B x / 2 ^ 52 % 2) * 2 ^ 52)

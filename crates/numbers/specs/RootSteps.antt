@@ -1,8 +1,10 @@
 -- What the parts of the square root's computation promise each other, on natural
 -- numbers. Definitions only; the root itself is defined in SquareRoot.antt.
-use Prim.Native.Nat.{ℕ, _+_, _*_, _^_, _≤_, _<_}
+use Prim.Native.Nat.{ℕ, _+_, _*_, _/_, _^_, _≤_, _<_}
 use mathlib.Core.Path.{_≡_}
-use lib.Ieee.{Float, binary64}
+use lib.Dec.{T}
+use lib.Ieee.{Float, binary64, toBits}
+use lib.Ieee.Positive.{positive}
 use Rattle.numbers.specs.SquareRoot.{rootOfUnits}
 
 -- s is the whole root of n
@@ -13,10 +15,9 @@ Root s n = (s * s ≤ n) × (n < (s + 1) * (s + 1))
 abbrev pub Nearest : ℕ → ℕ → Type 0
 Nearest q n = (q * q < n + q) × (n ≤ q * q + q)
 
--- what `settle` answers: 0, or the nearest to the root of m * 2 ^ 52
-pub record Settled (m r : ℕ) : Type 0 where
-  pub top : r ≤ 2 ^ 53
-  pub right : 0 < r → Nearest r (m * 2 ^ 52)
+-- x is above 0 and normal: the exponent's field of its pattern is neither 0 nor the largest
+abbrev pub IsNormal : Float → Type 0
+IsNormal x = T (positive x) × (0 < toBits binary64 x / 2 ^ 52) × (toBits binary64 x / 2 ^ 52 < 2047)
 
 -- r is the root of the value that is n units, wherever n * 2 ^ 1074 is m * 2 ^ e
 abbrev pub RootFrom : ℕ → ℕ → Float → Type 0

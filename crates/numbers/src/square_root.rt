@@ -4,9 +4,10 @@ ghost use mathlib.Core.Path.{_≡_};
 ghost use mathlib.Core.Bool.{cond};
 ghost use Prim.Native.Nat.{_<_, _≤_, _+_, _-_, _*_, _^_};
 ghost use lib.Dec.{T};
+ghost use lib.Ieee.{binary64, fits};
 ghost use lib.Ieee.Positive.{positive};
 ghost use Rattle.numbers.specs.SquareRoot.{sqrt};
-ghost use Rattle.numbers.specs.RootSteps.{Root, RootFrom, Normal, Settled};
+ghost use Rattle.numbers.specs.RootSteps.{Root, RootFrom, Normal, IsNormal, Nearest};
 
 // 2 ^ 52. In the pattern of a value that is not negative, bits / HIDDEN is the field of the exponent
 // and bits % HIDDEN the digits that are stored; a normal value has HIDDEN, its first digit, besides.
@@ -18,13 +19,25 @@ const INFINITY: u64 = 0x7ff0000000000000;
 // Its field of the exponent, which no finite value has.
 const SPECIAL: u64 = 2047;
 
-// 2 ^ 27: `settle` splits a significand there, so that its square is made of products that fit.
+// 2 ^ 27: `is_nearest` splits a significand there, so that its square is made of products that fit.
 const HALF: u64 = 0x8000000;
 
-// 2 ^ 24: the product of the two parts, which counts 2 ^ 28, splits there into multiples of HIDDEN and a rest.
+// 2 ^ 24: from units of 2 ^ 52, which the square of the upper part counts, to units of 2 ^ 28, which the product counts.
 const SEAM: u64 = 0x1000000;
 
+// 2 ^ 30 and 2 ^ 29: what a right guess leaves in those units is below.
+const FIRST_LEFT: u64 = 0x40000000;
+
+const SECOND_LEFT: u64 = 0x20000000;
+
 // ---- by digits: no branch but the loop, so that the time does not depend on the digits
+
+// 1 for true: a digit with no branch.
+fn bit(b: bool) -> u64
+    ensures { λ r. ⌜ (r ≤ 1) × (r ≡ cond b 1 0) ⌝ }
+{
+    if b { 1 } else { 0 }
+}
 
 // The whole root of m * 2 ^ 54, by its 54 binary digits. Each turn takes two more digits of m * 2 ^ 54
 // from the top of w; rem is what root * root leaves of the digits taken so far.
@@ -127,82 +140,108 @@ fn by_digits(x: f64) -> f64
 
 // ---- by a guess: no division, and one pass
 
-// A guess at the root of x, from its bit pattern: y0, the reciprocal root by the pattern's halved
-// exponent; y, which is within 2 ^ -15 of it, by a quadratic in x * y0 * y0 that is fitted to the
-// range that this has; and the root by three terms of the series for it. No fact about the guess is
-// used, so none is promised: `settle` finds out whether it is right.
-fn guess(x: f64, bits: u64) -> f64
-    requires { ⌜ bits < 2 ^ 63 ⌝ }
+// Whether x is above 0 and normal, so that no NaN either, whose pattern would be free.
+fn is_normal(x: f64) -> bool
+    ensures { λ r. ⌜ (T r → IsNormal x) ⌝ }
 {
+    if x > 0.0 {
+        let f = f64::to_bits(x) / HIDDEN;
+        if f > 0 {
+            return f < SPECIAL;
+        }
+    }
+    false
+}
+
+// A guess at the root of x, from its bit pattern: y0, the reciprocal root by the pattern's halved
+// exponent; y, which is within 2 ^ -15 of it, by a quadratic in x * y0 * y0 that is fitted to the range
+// that this has; and from s, which is x * y, the root by three terms of its series in r. Adding the large
+// number and taking it away leaves h with half the digits of s, so that h * h is exact, and
+// r is x - s * s nearly as if nothing had been rounded: one guess in a thousand is not the root.
+// Nothing is promised but that it is a double: `is_root` finds out whether it is right.
+fn guess(x: f64) -> f64
+    requires { ⌜ IsNormal x ⌝ }
+    ensures { λ r. ⌜ T (fits binary64 r) ⌝ }
+{
+    let bits = f64::to_bits(x);
     let y0 = f64::from_bits(0x5fe4000000000000 - bits / 2);
     let d = x * y0 * y0 - 1.3276938448174782;
     let y = y0 * 0.6631531244629528 * (d * d + 1.4074696786048837);
     let s = x * y;
     let v = s * y;
-    s + y * (x - s * s) * (1.1875 - v + 0.3125 * (v * v))
+    let large = f64::from_bits(0x21a8000000000000 + bits / (2 * HIDDEN) * HIDDEN);
+    let h = s + large - large;
+    let r = x - h * h - (s - h) * (s + h);
+    s + y * r * (1.1875 - v + 0.3125 * (v * v))
 }
 
-// 1 for true: a digit with no branch.
-fn bit(b: bool) -> u64
-    ensures { λ r. ⌜ (r ≤ 1) × (r ≡ cond b 1 0) ⌝ }
+// Whether q is the whole number nearest to the root of m * 2 ^ 52: whether that is above q * q - q and not
+// above q * q + q, the squares of q - 1/2 and q + 1/2 but for a quarter. With q = a * 2 ^ 27 + b its
+// square is taken from m * 2 ^ 52 part by part, first in units of 2 ^ 52, then of 2 ^ 28, then of 1; 8 of
+// the first are added, lest what is left be below 0. A q that is far off leaves too much and is refused.
+fn is_nearest(m: u64, q: u64) -> bool
+    requires { ⌜ (m < 2 ^ 54) × (q < 2 ^ 53) ⌝ }
+    ensures { λ r. ⌜ (T r → Nearest q (m * 2 ^ 52)) ⌝ }
 {
-    if b { 1 } else { 0 }
-}
-
-// The whole number nearest to the root of m * 2 ^ 52, from a guess q that is at most one off, and 0
-// where it is more. With d = m * 2 ^ 52 - q * q + 3 * q, the nearest is q + 1 where 4 * q < d, q - 1
-// where d <= 2 * q, and q between: the squares of q + 1/2 and q - 1/2 are q * q + q and q * q - q, and
-// a quarter. A d that is too small or too large says that the guess is more than one off.
-fn settle(m: u64, q: u64) -> u64
-    requires { ⌜ (2 ^ 52 ≤ m) × (m ≤ 2 ^ 54 - 2) × (2 ^ 52 ≤ q) × (q < 2 ^ 53) ⌝ }
-    ensures { λ r. ⌜ Settled m r ⌝ }
-{
-    // q * q is n * 2 ^ 52 and the rest ab % 2 ^ 24 * 2 ^ 28 + b * b
     let a = q / HALF;
     let b = q % HALF;
+    let aa = 4 * (a * a);
+    if m + 8 < aa {
+        return false;
+    }
+    let j = m + 8 - aa;
+    if FIRST_LEFT <= j {
+        return false;
+    }
     let ab = a * b;
-    let n = 4 * (a * a) + ab / SEAM;
-    // k is m - n, with 8 more lest it be below 0; a right guess has it small
-    if m + 8 < n {
-        return 0;
+    if j * SEAM < ab {
+        return false;
     }
-    let k = m + 8 - n;
-    if 32 <= k {
-        return 0;
+    let k = j * SEAM - ab;
+    if SECOND_LEFT <= k {
+        return false;
     }
-    // w - t is d; the last term of t takes the 8 back
-    let w = k * HIDDEN + 3 * q;
-    let t = ab % SEAM * (2 * HALF) + b * b + 8 * HIDDEN;
-    if w <= t + 2 {
-        return 0;
+    let w = k * (2 * HALF) + q;
+    let t = b * b + 8 * HIDDEN;
+    if w <= t {
+        return false;
     }
-    let d = w - t;
-    if 6 * q + 2 < d {
-        return 0;
-    }
-    q + bit(4 * q < d) - bit(d <= 2 * q)
+    w - t <= 2 * q
 }
 
-// IEEE 754's square root, by a guess that is checked; by the digits where it is refused. The guess is
-// for a normal value, and no NaN, whose pattern would be free. Its 53 digits are settled, and put
-// below the exponent of the root; the factor of m makes that exponent whole.
+// Whether the guess g is the root of x. Its digits q are what its pattern has above e, where the pattern of
+// the root has the exponent; m is the digits of x, and twice them where the exponent is odd.
+fn is_root(g: f64, x: f64) -> bool
+    requires { ⌜ IsNormal x × T (fits binary64 g) ⌝ }
+    ensures { λ r. ⌜ (T r → g ≡ sqrt x) ⌝ }
+{
+    if g != g {
+        return false;
+    }
+    let bits = f64::to_bits(x);
+    let f = bits / HIDDEN;
+    let m = (bits % HIDDEN + HIDDEN) * (2 - f % 2);
+    let e = (f + 1021) / 2 * HIDDEN;
+    let p = f64::to_bits(g);
+    if p < e {
+        return false;
+    }
+    let q = p - e;
+    if 2 * HIDDEN <= q {
+        return false;
+    }
+    is_nearest(m, q)
+}
+
+// IEEE 754's square root. Where the guess is right it is itself what is returned, so that what needs
+// the root does not wait for the check.
 pub fn sqrt(x: f64) -> f64
     ensures { λ r. ⌜ r ≡ sqrt x ⌝ }
 {
-    if x > 0.0 {
-        let bits = f64::to_bits(x);
-        let f = bits / HIDDEN;
-        if f > 0 {
-            if f < SPECIAL {
-                let g = guess(x, bits);
-                if g == g {
-                    let m = (bits % HIDDEN + HIDDEN) * (2 - f % 2);
-                    let q = settle(m, f64::to_bits(g) % HIDDEN + HIDDEN);
-                    if q > 0 {
-                        return f64::from_bits(((f + 1073) / 2 - 26) * HIDDEN + q);
-                    }
-                }
-            }
+    if is_normal(x) {
+        let g = guess(x);
+        if is_root(g, x) {
+            return g;
         }
     }
     by_digits(x)

@@ -1,0 +1,86 @@
+-- `is_root` meets its contract, by `fast-root` of RootGuess: the pattern that is put together of the exponent and the digits is that of the guess.
+use mathlib.Core.Path.{_≡_, sym, ap, _∙_}
+use Prim.Native.Nat.{_+_, _-_, _*_, _/_, _^_}
+use native.Mathlib.Omega.{arith}
+use borrow.Author.Needs.{needs}
+use lib.Ieee.{binary64, toBits, ofBits, fits}
+use lib.Ieee.Bits.{ofBits-toBits}
+use Rattle.numbers.proofs.FloatBits.{not-nan}
+use Rattle.numbers.proofs.RootGuess.{mantissa-in, positive-number, fast-root}
+use Rattle.numbers.proofs.square_root.is_root.Statement.{statement}
+use Rattle.numbers.proofs.square_root.is_root.Tie as tie
+use denote.Floats.{passes}
+
+returns : tie.Need-returns
+returns c = λ h. absurd h
+
+float-to-bits-bits : tie.Need-float-to-bits-bits
+float-to-bits-bits c = positive-number (c .before .args .x) (c .before .pre .0 .0)
+
+add-m : tie.Need-add-m
+add-m c = search needs
+
+sub-m : tie.Need-sub-m
+sub-m c = search needs
+
+mul-m : tie.Need-mul-m
+mul-m c =
+    let b = toBits binary64 (c .before .args .x) in
+    omega (arith, mantissa-in b (b / 2 ^ 52))
+
+add-e : tie.Need-add-e
+add-e c = search needs
+
+mul-e : tie.Need-mul-e
+mul-e c = search needs
+
+float-to-bits-p : tie.Need-float-to-bits-p
+float-to-bits-p c = not-nan (c .before .args .g) (c .if1 .left)
+
+returns-2 : tie.Need-returns-2
+returns-2 c = λ h. absurd h
+
+mul-if3 : tie.Need-mul-if3
+mul-if3 c = search needs
+
+returns-3 : tie.Need-returns-3
+returns-3 c = λ h. absurd h
+
+is-nearest-requires : tie.Need-is-nearest-requires
+is-nearest-requires c κs =
+    let b = toBits binary64 (c .before .before .before .args .x) in
+    let i = mantissa-in b (b / 2 ^ 52) in
+    (omega arith, omega arith)
+
+returns-4 : tie.Need-returns-4
+returns-4 c =
+    let k = c .before .before .before .before in
+    let x = k .args .x in
+    let g = k .args .g in
+    let f = toBits binary64 x / 2 ^ 52 in
+    let p = toBits binary64 g in
+    let q = p - (f + 1021) / 2 * 2 ^ 52 in
+    let n = k .pre .0 in
+    let same : p ≡ ((f + 1073) / 2 - 26) * 2 ^ 52 + q = omega arith in
+    λ h.
+    sym (ofBits-toBits binary64 g (k .pre .1))
+    ∙ ap (ofBits binary64) same
+    ∙ fast-root x q (n .0) (passes (fits binary64 x) (k .good .1 .0 .1)) (n .1) (n .2) (c .is-nearest .ensures h)
+
+pub is-root-spec : {M : Type 1} → statement M
+is-root-spec =
+    tie.close
+    (tie.spec
+    returns
+    float-to-bits-bits
+    add-m
+    sub-m
+    mul-m
+    add-e
+    mul-e
+    float-to-bits-p
+    returns-2
+    mul-if3
+    returns-3
+    is-nearest-requires
+    returns-4)
