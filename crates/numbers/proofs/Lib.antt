@@ -11,6 +11,7 @@ pub mod WholeRoot
 pub mod RootDigits
 pub mod RootBits
 pub mod RootGuess
+pub mod RootOrZero
 pub mod NearestRoot
 pub mod Samples
 pub mod FloatBits

@@ -1,6 +1,7 @@
 // Complex numbers: lumo's src/math/complex.rs, with document 01's stand-in for the half angle in `sqrt`.
 use crate::float;
 use crate::square_root::sqrt;
+use crate::square_root::sqrt_or_zero;
 ghost use mathlib.Core.Path.{_≡_};
 ghost use Rattle.numbers.specs.Complex.{complex, fromFloat, normSqr, norm, co, cosHalf, sinHalf, sqrt, add, floatAdd, sub, floatSub, mul, mulFloat, floatMul, isZero, div, divFloat, floatDiv};
 
@@ -65,7 +66,7 @@ impl Complex {
         if norm == 0.0 {
             return 1.0;
         }
-        sqrt(float::max((1.0 + self.Re / norm) / 2.0, 0.0))
+        sqrt_or_zero((1.0 + self.Re / norm) / 2.0)
     }
 
     // The sine of half the angle.
@@ -75,7 +76,7 @@ impl Complex {
         if norm == 0.0 {
             return 0.0;
         }
-        let sin = sqrt(float::max((1.0 - self.Re / norm) / 2.0, 0.0));
+        let sin = sqrt_or_zero((1.0 - self.Re / norm) / 2.0);
         if float::is_sign_negative(self.Im) {
             return -sin;
         }

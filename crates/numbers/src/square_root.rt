@@ -6,6 +6,7 @@ ghost use Prim.Native.Nat.{_<_, _≤_, _+_, _-_, _*_, _^_};
 ghost use lib.Dec.{T};
 ghost use lib.Ieee.{binary64, fits};
 ghost use lib.Ieee.Positive.{positive};
+ghost use Rattle.numbers.specs.Float.{max, f0};
 ghost use Rattle.numbers.specs.SquareRoot.{sqrt};
 ghost use Rattle.numbers.specs.RootSteps.{Root, RootFrom, Normal, IsNormal, Nearest};
 
@@ -245,4 +246,17 @@ pub fn sqrt(x: f64) -> f64
         }
     }
     by_digits(x)
+}
+
+// lumo's `x.max(0.0).sqrt()`, with no maximum for the root to wait for: 0 where x is below 0 or no number.
+pub fn sqrt_or_zero(x: f64) -> f64
+    ensures { λ r. ⌜ r ≡ sqrt (max x f0) ⌝ }
+{
+    if x > 0.0 {
+        return sqrt(x);
+    }
+    if x == 0.0 {
+        return x;
+    }
+    0.0
 }

@@ -1,7 +1,7 @@
 // Vectors of three floats: lumo's src/math/vec3.rs. An operator of the Rust is a function here: on two
 // vectors by its name, on a vector and a float as `add_float`, on a float and a vector as `float_add`.
 use crate::float;
-use crate::square_root::sqrt;
+use crate::square_root::sqrt_or_zero;
 use crate::vec2::Vec2;
 ghost use mathlib.Core.Path.{_≡_};
 ghost use Rattle.numbers.specs.Vec3.{vec3, splat, truncate, lengthSquared, length, distanceSquared, distance, scale, cross, dot, projectOnto, normalize, isNormalized, isDirection, minElement, maxElement, abs, min, max, negate, add, sub, mul, div, addFloat, subFloat, mulFloat, divFloat, floatAdd, floatSub, floatMul, floatDiv};
@@ -68,7 +68,7 @@ impl Vec3 {
     pub fn length(self) -> f64
         ensures { λ r. ⌜ r ≡ length self ⌝ }
     {
-        sqrt(float::max(self.length_squared(), 0.0))
+        sqrt_or_zero(self.length_squared())
     }
 
     pub fn length_squared(self) -> f64
@@ -80,7 +80,7 @@ impl Vec3 {
     pub fn distance(self, other: Vec3) -> f64
         ensures { λ r. ⌜ r ≡ distance self other ⌝ }
     {
-        sqrt(float::max(self.distance_squared(other), 0.0))
+        sqrt_or_zero(self.distance_squared(other))
     }
 
     pub fn distance_squared(self, other: Vec3) -> f64

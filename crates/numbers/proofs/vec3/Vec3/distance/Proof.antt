@@ -8,15 +8,12 @@ use Rattle.numbers.proofs.vec3.Vec3.distance.Tie as tie
 distance-squared-requires : tie.Need-distance-squared-requires
 distance-squared-requires c κs = search needs
 
-max-requires : tie.Need-max-requires
-max-requires c κs = search needs
-
-sqrt-requires : tie.Need-sqrt-requires
-sqrt-requires c κs = search needs
+sqrt-or-zero-requires : tie.Need-sqrt-or-zero-requires
+sqrt-or-zero-requires c κs = search needs
 
 returns : tie.Need-returns
 unfolding distance ofBits
-returns c = rw (← c .before .before .distance-squared .ensures, ← c .before .max .ensures, ← c .sqrt .ensures)
+returns c = rw (← c .before .distance-squared .ensures, ← c .sqrt-or-zero .ensures)
 
 pub distance-spec : {M : Type 1} → statement M
-distance-spec = tie.close (tie.spec distance-squared-requires max-requires sqrt-requires returns)
+distance-spec = tie.close (tie.spec distance-squared-requires sqrt-or-zero-requires returns)

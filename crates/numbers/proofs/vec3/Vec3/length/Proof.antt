@@ -8,15 +8,12 @@ use Rattle.numbers.proofs.vec3.Vec3.length.Tie as tie
 length-squared-requires : tie.Need-length-squared-requires
 length-squared-requires c κs = search needs
 
-max-requires : tie.Need-max-requires
-max-requires c κs = search needs
-
-sqrt-requires : tie.Need-sqrt-requires
-sqrt-requires c κs = search needs
+sqrt-or-zero-requires : tie.Need-sqrt-or-zero-requires
+sqrt-or-zero-requires c κs = search needs
 
 returns : tie.Need-returns
 unfolding length ofBits
-returns c = rw (← c .before .before .length-squared .ensures, ← c .before .max .ensures, ← c .sqrt .ensures)
+returns c = rw (← c .before .length-squared .ensures, ← c .sqrt-or-zero .ensures)
 
 pub length-spec : {M : Type 1} → statement M
-length-spec = tie.close (tie.spec length-squared-requires max-requires sqrt-requires returns)
+length-spec = tie.close (tie.spec length-squared-requires sqrt-or-zero-requires returns)
