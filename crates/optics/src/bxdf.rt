@@ -2,9 +2,8 @@
 use crate::microfacet::Kind;
 use crate::microfacet::Surface;
 use numbers::EPSILON;
-use numbers::float;
 use numbers::spherical_utils;
-use numbers::square_root::sqrt;
+use numbers::square_root::sqrt_or_zero;
 use numbers::vec3::Vec3;
 
 pub mod conductor;
@@ -67,7 +66,7 @@ fn refract_facing(eta: f64, cos_to: f64, wo: Vec3, n: Vec3) -> Refracted
         return Refracted::Total;
     }
 
-    let cos_ti = sqrt(float::max(1.0 - sin2_ti, 0.0));
+    let cos_ti = sqrt_or_zero(1.0 - sin2_ti);
     let along = wo.negate().div_float(eta);
     let wi = along.add(Vec3::float_mul(cos_to / eta - cos_ti, n));
     if spherical_utils::same_hemisphere(wi, wo) {

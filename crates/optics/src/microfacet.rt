@@ -6,6 +6,7 @@ use numbers::complex::Complex;
 use numbers::dense_spectrum::DenseSpectrum;
 use numbers::float;
 use numbers::square_root::sqrt;
+use numbers::square_root::sqrt_or_zero;
 use numbers::vec2::Vec2;
 use numbers::vec3::Vec3;
 ghost use mathlib.Core.Path.{_≡_};
@@ -131,7 +132,7 @@ impl Surface {
         let y = self.roughness.y * azimuth(w.y, sin_theta, 0.0);
         let alpha2 = x * x + y * y;
 
-        (sqrt(float::max(1.0 + alpha2 * tan2_theta, 0.0)) - 1.0) / 2.0
+        (sqrt_or_zero(1.0 + alpha2 * tan2_theta) - 1.0) / 2.0
     }
 
     // Shadow-masking term. Used to make sure that only microfacets that are visible from `wo`
@@ -256,14 +257,14 @@ fn on_hemisphere(v: Vec3, r: f64, c: f64, s: f64) -> Vec3
     let x = r * c;
     // then map it to the projection disk
     let rest = 1.0 - x * x;
-    let h = sqrt(float::max(rest, 0.0));
+    let h = sqrt_or_zero(rest);
     let lerp = (1.0 + v.z) / 2.0;
     let y = (1.0 - lerp) * h + lerp * r * s;
 
     Vec3 {
         x: x,
         y: y,
-        z: sqrt(float::max(rest - y * y, 0.0)),
+        z: sqrt_or_zero(rest - y * y),
     }
 }
 
@@ -389,7 +390,7 @@ fn fr_facing(cos_o: f64, eta: f64) -> f64
         return 1.0;
     }
 
-    let cos_i = sqrt(float::max(1.0 - sin2_i, 0.0));
+    let cos_i = sqrt_or_zero(1.0 - sin2_i);
     let o = eta * cos_o;
     let i = eta * cos_i;
 

@@ -10,11 +10,8 @@ returns : tie.Need-returns
 unfolding refractFacing sin2I isTotal cosI bent acrossOnly refracted ofBits
 returns c = rw (c .if1 .taken)
 
-max-requires : tie.Need-max-requires
-max-requires c κs = search needs
-
-sqrt-requires : tie.Need-sqrt-requires
-sqrt-requires c κs = search needs
+sqrt-or-zero-requires : tie.Need-sqrt-or-zero-requires
+sqrt-or-zero-requires c κs = search needs
 
 negate-requires : tie.Need-negate-requires
 negate-requires c κs = search needs
@@ -35,9 +32,8 @@ returns-2 : tie.Need-returns-2
 unfolding refractFacing sin2I isTotal cosI bent acrossOnly refracted ofBits
 returns-2 c =
     rw (
-      c .before .before .before .before .before .before .before .before .if1 .left,
-      ← c .before .before .before .before .before .before .before .max .ensures,
-      ← c .before .before .before .before .before .before .sqrt .ensures,
+      c .before .before .before .before .before .before .before .if1 .left,
+      ← c .before .before .before .before .before .before .sqrt-or-zero .ensures,
       ← c .before .before .before .before .before .negate .ensures,
       ← c .before .before .before .before .div-float .ensures,
       ← c .before .before .before .float-mul .ensures,
@@ -50,9 +46,8 @@ returns-3 : tie.Need-returns-3
 unfolding refractFacing sin2I isTotal cosI bent acrossOnly refracted ofBits
 returns-3 c =
     rw (
-      c .before .before .before .before .before .before .before .before .if1 .left,
-      ← c .before .before .before .before .before .before .before .max .ensures,
-      ← c .before .before .before .before .before .before .sqrt .ensures,
+      c .before .before .before .before .before .before .before .if1 .left,
+      ← c .before .before .before .before .before .before .sqrt-or-zero .ensures,
       ← c .before .before .before .before .before .negate .ensures,
       ← c .before .before .before .before .div-float .ensures,
       ← c .before .before .before .float-mul .ensures,
@@ -66,8 +61,7 @@ refract-facing-spec =
     tie.close
     (tie.spec
     returns
-    max-requires
-    sqrt-requires
+    sqrt-or-zero-requires
     negate-requires
     div-float-requires
     float-mul-requires

@@ -9,15 +9,12 @@ returns : tie.Need-returns
 unfolding frFacing sin2I isTotal cosI unpolarized contrast meanSquare ofBits
 returns c = rw (c .if1 .taken)
 
-max-requires : tie.Need-max-requires
-max-requires c κs = search needs
-
-sqrt-requires : tie.Need-sqrt-requires
-sqrt-requires c κs = search needs
+sqrt-or-zero-requires : tie.Need-sqrt-or-zero-requires
+sqrt-or-zero-requires c κs = search needs
 
 returns-2 : tie.Need-returns-2
 unfolding frFacing sin2I isTotal cosI unpolarized contrast meanSquare ofBits
-returns-2 c = rw (c .before .before .if1 .left, ← c .before .max .ensures, ← c .sqrt .ensures)
+returns-2 c = rw (c .before .if1 .left, ← c .sqrt-or-zero .ensures)
 
 pub fr-facing-spec : {M : Type 1} → statement M
-fr-facing-spec = tie.close (tie.spec returns max-requires sqrt-requires returns-2)
+fr-facing-spec = tie.close (tie.spec returns sqrt-or-zero-requires returns-2)

@@ -5,28 +5,20 @@ use borrow.Author.Needs.{needs}
 use Rattle.optics.proofs.microfacet.on_hemisphere.Statement.{statement}
 use Rattle.optics.proofs.microfacet.on_hemisphere.Tie as tie
 
-max-requires : tie.Need-max-requires
-max-requires c κs = search needs
+sqrt-or-zero-requires : tie.Need-sqrt-or-zero-requires
+sqrt-or-zero-requires c κs = search needs
 
-sqrt-requires : tie.Need-sqrt-requires
-sqrt-requires c κs = search needs
-
-max-requires-2 : tie.Need-max-requires-2
-max-requires-2 c κs = search needs
-
-sqrt-requires-2 : tie.Need-sqrt-requires-2
-sqrt-requires-2 c κs = search needs
+sqrt-or-zero-requires-2 : tie.Need-sqrt-or-zero-requires-2
+sqrt-or-zero-requires-2 c κs = search needs
 
 returns : tie.Need-returns
 unfolding onHemisphere diskX diskH diskY diskZ lerp ofBits
 returns c =
     rw (
-      ← c .before .before .before .before .max .ensures,
-      ← c .before .before .before .sqrt .ensures,
-      ← c .before .max2 .ensures,
-      ← c .sqrt2 .ensures,
+      ← c .before .before .sqrt-or-zero .ensures,
+      ← c .sqrt-or-zero2 .ensures,
     )
 
 pub on-hemisphere-spec : {M : Type 1} → statement M
 on-hemisphere-spec =
-    tie.close (tie.spec max-requires sqrt-requires max-requires-2 sqrt-requires-2 returns)
+    tie.close (tie.spec sqrt-or-zero-requires sqrt-or-zero-requires-2 returns)

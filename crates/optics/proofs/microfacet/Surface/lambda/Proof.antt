@@ -26,24 +26,20 @@ azimuth-requires c κs = search needs
 azimuth-requires-2 : tie.Need-azimuth-requires-2
 azimuth-requires-2 c κs = search needs
 
-max-requires-2 : tie.Need-max-requires-2
-max-requires-2 c κs = search needs
-
-sqrt-requires-2 : tie.Need-sqrt-requires-2
-sqrt-requires-2 c κs = search needs
+sqrt-or-zero-requires : tie.Need-sqrt-or-zero-requires
+sqrt-or-zero-requires c κs = search needs
 
 returns-2 : tie.Need-returns-2
 unfolding lambda lambdaOf alpha2 tan2Theta sin2Theta cos2Theta sinTheta cosPhi sinPhi azimuth powi2 ofBits
 returns-2 c =
     rw (
-      ← c .before .before .before .before .before .before .before .before .before .max .ensures,
-      ← c .before .before .before .before .before .before .before .before .is-infinite .ensures,
-      c .before .before .before .before .before .before .before .if1 .left,
-      ← c .before .before .before .before .before .before .sqrt .ensures,
-      ← c .before .before .before .before .before .azimuth .ensures,
-      ← c .before .before .before .azimuth2 .ensures,
-      ← c .before .max2 .ensures,
-      ← c .sqrt2 .ensures,
+      ← c .before .before .before .before .before .before .before .before .max .ensures,
+      ← c .before .before .before .before .before .before .before .is-infinite .ensures,
+      c .before .before .before .before .before .before .if1 .left,
+      ← c .before .before .before .before .before .sqrt .ensures,
+      ← c .before .before .before .before .azimuth .ensures,
+      ← c .before .before .azimuth2 .ensures,
+      ← c .sqrt-or-zero .ensures,
     )
 
 pub lambda-spec : {M : Type 1} → statement M
@@ -56,6 +52,5 @@ lambda-spec =
     sqrt-requires
     azimuth-requires
     azimuth-requires-2
-    max-requires-2
-    sqrt-requires-2
+    sqrt-or-zero-requires
     returns-2)
