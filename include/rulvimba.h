@@ -9,8 +9,10 @@
  * and writes nothing else, keeps no state, allocates nothing, and always returns. What is asked of the
  * caller: a pointer to an array is good for the length that goes with it, a pointer to a path is good
  * for eight doubles, neither is NULL (an array of length 0 included), a bool is 0 or 1, and what is
- * written to (path, output) overlaps nothing else that is handed in. Calls on different memory may run
- * on different threads.
+ * written to (path, output) overlaps nothing else that is handed in. The processor's float control is
+ * the default (round to nearest, nothing flushed to zero): a program linked with -ffast-math, or one
+ * that sets a rounding mode, gets other answers. Calls on different memory may run on different
+ * threads. The library is for x86-64.
  *
  * NUMBERS. Every result has a number: 0 where the call is accepted, else why it is refused:
  *    1 roughness (or a kind that is neither metal nor glass)      6 a random number

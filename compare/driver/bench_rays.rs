@@ -210,7 +210,7 @@ fn bench_job(seed: u64, bounces: usize, runs: usize) -> io::Result<bool> {
 
 fn print_job(bounces: usize, runs: usize, [ours, rust]: [Ran; 2], bytes: [u64; 2], same: bool) {
     let each = |seconds: f64| bounces as f64 / seconds;
-    let size = |n: u64| if n < 10_000_000 { format!("{} KB", n / 1000) } else { format!("{} MB", n / 1_000_000) };
+    let size = |n: u64| if n < 10_000_000 { format!("{:.0} KB", n as f64 / 1e3) } else { format!("{:.0} MB", n as f64 / 1e6) };
     println!("a job of {bounces} bounces, {} in and {} out, the least of {runs} runs", size(bytes[0]), size(bytes[1]));
     let line = |name: &str, a: f64, b: f64, ratio: f64| println!("  {name:<34} {a:>12.0} {b:>12.0} {ratio:>6.2}");
     line("bounces a second, by the clock", each(ours.clock), each(rust.clock), ours.clock / rust.clock);

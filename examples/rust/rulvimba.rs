@@ -1,5 +1,6 @@
 //! The library in Rust: the declarations of include/rulvimba.h, each behind a safe function. A slice goes
-//! over as its pointer and its length, a path as a `&mut Path`; the library asks nothing else of its caller.
+//! over as its pointer and its length, a path as a `&mut Path`; the library asks nothing else of its
+//! caller but the processor's default float control.
 
 #[repr(C)]
 #[derive(Clone, Copy, Debug, Default, PartialEq)]
