@@ -20,6 +20,36 @@ pub fn bits(x: f64) -> u64 {
     if x.is_nan() { NAN } else { x.to_bits() }
 }
 
+/// A value in memory, with words about it that no call may touch.
+#[repr(C)]
+pub struct Guarded<T> {
+    before: [u64; 4],
+    pub held: T,
+    after: [u64; 4],
+}
+
+pub const GUARD: u64 = 0xfff4_5a5a_a5a5_0000;
+
+impl<T: Copy> Guarded<T> {
+    pub fn new(held: T) -> Self {
+        Self { before: [GUARD; 4], held, after: [GUARD; 4] }
+    }
+
+    /// Whether the words about it are as they were, and it too, bit by bit, if it must be.
+    pub fn is_kept(&self, was: &T, it_too: bool) -> bool {
+        let about = self.before == [GUARD; 4] && self.after == [GUARD; 4];
+        about && (!it_too || same_bytes(&self.held, was))
+    }
+}
+
+/// Of values without padding.
+pub fn same_bytes<T: Copy>(a: &T, b: &T) -> bool {
+    fn bytes<T>(x: &T) -> &[u8] {
+        unsafe { std::slice::from_raw_parts((x as *const T).cast(), size_of::<T>()) }
+    }
+    bytes(a) == bytes(b)
+}
+
 impl Words for f64 {
     const SHAPE: &'static [Slot] = &[Slot::Float];
     fn get(w: &[f64]) -> Self {

@@ -39,6 +39,10 @@ fn four(c: rulvimba::Color) -> [f64; 4] {
     [c.s0, c.s1, c.s2, c.s3]
 }
 
+fn c8(p: &Path) -> rulvimba::Path {
+    rulvimba::Path { lambda: c4(p.lambda), power: c4(p.power) }
+}
+
 fn eight(p: &rulvimba::Path) -> [f64; 8] {
     let mut out = [0.0; 8];
     out[..4].copy_from_slice(&four(p.lambda));
@@ -73,34 +77,7 @@ fn other_kind(rng: &mut Rng) -> u64 {
     [2, 3, 1 << 32, u64::MAX, 2 + (rng.next() >> 1)][rng.below(5)]
 }
 
-fn raw<const N: usize>(values: [f64; N]) -> [u64; N] {
-    values.map(f64::to_bits)
-}
-
 // ---- a bounce on a path in memory
-
-/// A path with words about it that no call may touch.
-#[repr(C)]
-struct Guarded {
-    before: [u64; 4],
-    path: rulvimba::Path,
-    after: [u64; 4],
-}
-
-const GUARD: u64 = 0xfff4_5a5a_a5a5_0000;
-
-impl Guarded {
-    fn new(p: &Path) -> Self {
-        let path = rulvimba::Path { lambda: c4(p.lambda), power: c4(p.power) };
-        Self { before: [GUARD; 4], path, after: [GUARD; 4] }
-    }
-
-    /// Whether the words about the path are as they were, and the path too if it must be.
-    fn is_kept(&self, p: &Path, path_too: bool) -> bool {
-        let about = self.before == [GUARD; 4] && self.after == [GUARD; 4];
-        about && (!path_too || raw(eight(&self.path)) == raw(eight(&Self::new(p).path)))
-    }
-}
 
 /// An answer's words in the order of `Bounced::words`.
 fn words(r: &BounceResult, p: &rulvimba::Path) -> [u64; OUTS] {
@@ -134,7 +111,7 @@ fn refused(number: u64, p: &Path) -> Bounced {
         density: rulvimba::Density { finite: 0, value: 0.0 },
         shares: rulvimba::Shares { given: 0, reflected: 0.0, passed: 0.0 },
     };
-    bounced(&r, &Guarded::new(p).path)
+    bounced(&r, &c8(p))
 }
 
 // ---- many bounces to a call
@@ -249,16 +226,16 @@ impl Library {
 
     /// One bounce on a path in memory.
     fn one(&mut self, kind: u64, s: &Surface, p: &Path, b: &Bounce) -> (Bounced, [u64; OUTS]) {
-        let mut held = Guarded::new(p);
-        let r = rulvimba::bounce(&mut held.path, surface(kind, s.a), spectra(s), arguments(b));
-        if !held.is_kept(p, r.number != 0) {
+        let mut path = Guarded::new(c8(p));
+        let r = rulvimba::bounce(&mut path.held, surface(kind, s.a), spectra(s), arguments(b));
+        if !path.is_kept(&c8(p), r.number != 0) {
             self.aside += 1;
             if self.aside <= 3 {
                 println!("  rulvimba_bounce, number {}: memory that must be kept is not as it was", r.number);
                 println!("    in  {}", hex_floats(&words_in(p, b)));
             }
         }
-        (bounced(&r, &held.path), words(&r, &held.path))
+        (bounced(&r, &path.held), words(&r, &path.held))
     }
 
     fn one_of_other_kind(&mut self, of: &Lumo, p: &Path, b: &Bounce) {
@@ -348,11 +325,11 @@ fn compare_starts(seed: u64, count: usize) -> usize {
         let number = if rust.is_some() { 0 } else { 4 };
         // what stood there before, which a refusal leaves
         let old = Path { lambda: start_input(rng, i), power: Color([0.25, -0.0, f64::NAN, f64::from_bits(rng.next())]) };
-        let mut held = Guarded::new(&old);
-        let n = rulvimba::start(&mut held.path, c4(lambda));
+        let mut path = Guarded::new(c8(&old));
+        let n = rulvimba::start(&mut path.held, c4(lambda));
         let expected = rust.unwrap_or(old).words();
         refused += (number != 0) as usize;
-        if n != number || !held.is_kept(&old, number != 0) || eight(&held.path).map(bits) != expected {
+        if n != number || !path.is_kept(&c8(&old), number != 0) || eight(&path.held).map(bits) != expected {
             differences += 1;
             if differences <= 3 {
                 println!("  rulvimba_start\n    in  {}\n    here {n} rust {number}", hex_floats(&lambda.0));

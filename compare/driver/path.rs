@@ -76,6 +76,7 @@ struct Started {
 extern "C" {
     fn path_start(lambda: Color) -> Started;
     fn path_bounce(path: Path, glass: bool, a: Vec2, eta: *const f64, n: usize, k: *const f64, m: usize, b: Bounce) -> Bounced;
+    fn path_bounce_on(path: &mut Path, glass: bool, a: Vec2, eta: *const f64, n: usize, k: *const f64, m: usize, b: Bounce) -> Bounced;
 }
 
 /// How many words an answer has, and a bounce without its surface.
@@ -538,6 +539,34 @@ impl Subject for ByValue {
     }
 }
 
+/// The thin form, on a path in memory.
+#[derive(Default)]
+struct Thin {
+    /// How often memory was not as it must be: the words about the path, the path after a refusal, or a path other than
+    /// the answer's.
+    in_memory: usize,
+}
+
+impl Subject for Thin {
+    const NAME: &'static str = "path_bounce_on";
+
+    /// The answer with the path that is in memory.
+    fn bounce(&mut self, p: &Path, _: usize, of: &Lumo, b: &Bounce, _: Option<&Bounced>) -> (Bounced, [u64; OUTS]) {
+        let s = &of.surface;
+        let mut path = Guarded::new(*p);
+        let a = unsafe { path_bounce_on(&mut path.held, s.glass, s.a, s.eta.as_ptr(), s.eta.len(), s.k.as_ptr(), s.k.len(), *b) };
+        if !path.is_kept(p, a.number != 0) || !same_bytes(&path.held, &a.path) {
+            self.in_memory += 1;
+            if self.in_memory <= 3 {
+                println!("  {}, number {}: memory is not as it must be", Self::NAME, a.number);
+                println!("    in  {}\n    here {}\n    kept {}", hex_floats(&words_in(p, b)), hex(&a.words()), hex(&path.held.words()));
+            }
+        }
+        let a = Bounced { path: path.held, ..a };
+        (a, a.words())
+    }
+}
+
 /// Lists of bounces on one path, `bounces` of them or a few more, each beside the driver's own answer; the first
 /// list has the known edges.
 pub fn walk<S: Subject>(seed: u64, bounces: usize, subject: &mut S) -> Counts {
@@ -595,9 +624,13 @@ pub fn walk<S: Subject>(seed: u64, bounces: usize, subject: &mut S) -> Counts {
 
 pub fn compare(seed: u64, count: usize) -> usize {
     let starts = compare_start(seed, count);
-    let c = walk(seed, count * 5, &mut ByValue);
-    c.print(ByValue::NAME);
-    starts + c.differences
+    let by_value = walk(seed, count * 5, &mut ByValue);
+    by_value.print(ByValue::NAME);
+    let mut thin = Thin::default();
+    let by_reference = walk(seed, count * 5, &mut thin);
+    by_reference.print(Thin::NAME);
+    println!("  differences in memory {}", thin.in_memory);
+    starts + by_value.differences + by_reference.differences + thin.in_memory
 }
 
 // ---- the sample: a record for each bounce of a list, with the path before it
