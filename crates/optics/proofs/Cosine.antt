@@ -7,7 +7,7 @@ use lib.Ieee.{Float, nan, inf, fin, Format, binary64, unlike, round, up, down, m
 use Rattle.numbers.specs.Vec3.{dot}
 use Rattle.numbers.specs.declared.vec2.Vec2.{Vec2}
 use Rattle.numbers.specs.declared.vec3.Vec3.{Vec3}
-use Rattle.optics.specs.Facets.{chiPass, g1, g1At, sampleNormalPdf, sampleNormalPdfAt}
+use Rattle.optics.specs.Facets.{chiPass, g1With, g1At, sampleNormalPdfWith, sampleNormalPdfAt}
 
 unlike-comm : (s t : Bool) → unlike s t ≡ unlike t s
 unlike-comm true true = refl
@@ -39,6 +39,6 @@ dot-comm v w =
     )
 
 -- the density of a sampled normal from the one cosine wo · wh
-pub one-cosine : (a : Vec2) (wh wo : Vec3) → sampleNormalPdfAt a (dot wo wh) wh wo ≡ sampleNormalPdf a wh wo
-unfolding sampleNormalPdf sampleNormalPdfAt g1 g1At chiPass
-one-cosine a wh wo = rw (dot-comm wh wo)
+pub one-cosine : (a : Vec2) (lambdaWo : Float) (wh wo : Vec3) → sampleNormalPdfAt a lambdaWo (dot wo wh) wh wo ≡ sampleNormalPdfWith a lambdaWo wh wo
+unfolding sampleNormalPdfWith sampleNormalPdfAt g1With g1At chiPass
+one-cosine a lambdaWo wh wo = rw (dot-comm wh wo)

@@ -15,11 +15,11 @@ use Rattle.numbers.specs.SphericalUtils.{cosTheta, sameHemisphere}
 use Rattle.numbers.specs.DenseSpectrum.{isWavelength}
 use Rattle.numbers.specs.declared.vec2.Vec2.{Vec2}
 use Rattle.numbers.specs.declared.vec3.Vec3.{Vec3}
-use Rattle.optics.specs.Facets.{isDelta, g1, d, sampleNormalPdf}
+use Rattle.optics.specs.Facets.{isDelta, lambda, g1With, d, sampleNormalPdfWith}
 use Rattle.optics.specs.Fresnel.{fAt}
 use Rattle.optics.specs.Surface.{Microsurface, etaHolds, kHolds, etaAt, kAt}
 use Rattle.optics.specs.Bxdf.{isSmooth, rest}
-use Rattle.optics.specs.Density.{f4, atZ, mirroredPdf, conductorHalf, conductorPdf, etaRatio, dielectricHalf, isDiscarded, reflectedPdf, passedPdf, dielectricAt, dielectricPdf, pdfOf, pdf}
+use Rattle.optics.specs.Density.{f4, atZ, mirroredPdf, conductorHalf, conductorPdfWith, conductorPdf, etaRatio, dielectricHalf, isDiscarded, reflectedPdf, passedPdf, dielectricAt, dielectricPdfWith, dielectricPdf, pdfOf, pdf}
 use Rattle.optics.specs.declared.microfacet.Kind.{Kind}
 use Rattle.optics.specs.declared.microfacet.Kind.the-variants.{Metal, Glass}
 use Rattle.optics.proofs.AnyCosine.{NanOrShare, fresnel-any}
@@ -62,44 +62,47 @@ at-z-not-below wh x h = go (lt (f1 ⊖ cosTheta wh) epsilon)
     go true = h
     go false = f0-not-below
 
-sampled-not-below : (a : Vec2) (wh wo : Vec3) → NotNegative (sampleNormalPdf a wh wo)
-unfolding sampleNormalPdf
-sampled-not-below a wh wo = max-not-below (g1 a wo wh ⊗ d a wh ⊗ abs (dot wh wo) ⊘ abs (cosTheta wo))
+sampled-not-below : (a : Vec2) (l : Float) (wh wo : Vec3) → NotNegative (sampleNormalPdfWith a l wh wo)
+unfolding sampleNormalPdfWith
+sampled-not-below a l wh wo = max-not-below (g1With l wo wh ⊗ d a wh ⊗ abs (dot wh wo) ⊘ abs (cosTheta wo))
 
-mirrored-not-below : (a : Vec2) (wo wh : Vec3) → NotNegative (mirroredPdf a wo wh)
+mirrored-not-below : (a : Vec2) (l : Float) (wo wh : Vec3) → NotNegative (mirroredPdf a l wo wh)
 unfolding mirroredPdf
-mirrored-not-below a wo wh =
+mirrored-not-below a l wo wh =
     let c = abs (dot wo wh) in
-    div-not-below (sampleNormalPdf a wh wo) (f4 ⊗ c) (sampled-not-below a wh wo) (mul-plus f4 c refl (abs-plus (dot wo wh)))
+    div-not-below (sampleNormalPdfWith a l wh wo) (f4 ⊗ c) (sampled-not-below a l wh wo) (mul-plus f4 c refl (abs-plus (dot wo wh)))
 
 pub conductor-not-below : (a : Vec2) (wo wi : Vec3) → NotNegative (conductorPdf a wo wi)
-unfolding conductorPdf
+unfolding conductorPdf conductorPdfWith
 conductor-not-below a wo wi = go (sameHemisphere wi wo) (isDelta a)
   where
+    l : Float
+    l = lambda a wo
+
     wh : Vec3
     wh = conductorHalf wo wi
 
-    go : (same delta : Bool) → NotNegative (cond same (cond delta (atZ wh f1) (mirroredPdf a wo wh)) f0)
+    go : (same delta : Bool) → NotNegative (cond same (cond delta (atZ wh f1) (mirroredPdf a l wo wh)) f0)
     go true true = at-z-not-below wh f1 (inl refl)
-    go true false = mirrored-not-below a wo wh
+    go true false = mirrored-not-below a l wo wh
     go false delta = f0-not-below
 
-reflected-not-below : (a : Vec2) (eta F : Float) (wo wh : Vec3) → SharesSigns F → NotNegative (reflectedPdf a eta F wo wh)
+reflected-not-below : (a : Vec2) (l eta F : Float) (wo wh : Vec3) → SharesSigns F → NotNegative (reflectedPdf a l eta F wo wh)
 unfolding reflectedPdf
-reflected-not-below a eta F wo wh s = go (isSmooth a eta)
+reflected-not-below a l eta F wo wh s = go (isSmooth a eta)
   where
     whole : Float
     whole = F ⊕ rest F
 
-    go : (b : Bool) → NotNegative (cond b (atZ wh (F ⊘ whole)) (mirroredPdf a wo wh ⊗ F ⊘ whole))
+    go : (b : Bool) → NotNegative (cond b (atZ wh (F ⊘ whole)) (mirroredPdf a l wo wh ⊗ F ⊘ whole))
     go true = at-z-not-below wh (F ⊘ whole) (div-not-below F whole (s .first) (s .whole))
     go false =
-        let m = mirroredPdf a wo wh in
-        div-not-below (m ⊗ F) whole (mul-not-below m F (mirrored-not-below a wo wh) (s .first)) (s .whole)
+        let m = mirroredPdf a l wo wh in
+        div-not-below (m ⊗ F) whole (mul-not-below m F (mirrored-not-below a l wo wh) (s .first)) (s .whole)
 
-passed-not-below : (a : Vec2) (eta ratio F : Float) (wo wi wh : Vec3) → SharesSigns F → NotNegative (passedPdf a eta ratio F wo wi wh)
+passed-not-below : (a : Vec2) (l eta ratio F : Float) (wo wi wh : Vec3) → SharesSigns F → NotNegative (passedPdf a l eta ratio F wo wi wh)
 unfolding passedPdf powi2
-passed-not-below a eta ratio F wo wi wh s = go (isSmooth a eta)
+passed-not-below a l eta ratio F wo wi wh s = go (isSmooth a eta)
   where
     whole : Float
     whole = F ⊕ rest F
@@ -108,12 +111,12 @@ passed-not-below a eta ratio F wo wi wh s = go (isSmooth a eta)
     v = dot wi wh ⊕ dot wo wh ⊘ ratio
 
     facet : Float
-    facet = sampleNormalPdf a wh wo ⊗ abs (dot wi wh)
+    facet = sampleNormalPdfWith a l wh wo ⊗ abs (dot wi wh)
 
     facet-not-below : NotNegative facet
     facet-not-below =
         let c = abs (dot wi wh) in
-        mul-not-below (sampleNormalPdf a wh wo) c (sampled-not-below a wh wo) (plus-not-below c (abs-plus (dot wi wh)))
+        mul-not-below (sampleNormalPdfWith a l wh wo) c (sampled-not-below a l wh wo) (plus-not-below c (abs-plus (dot wi wh)))
 
     bent-not-below : NotNegative (facet ⊘ (v ⊗ v))
     bent-not-below = div-not-below facet (v ⊗ v) facet-not-below (square-plus v)
@@ -127,10 +130,10 @@ nan-or-share : (wo wh : Vec3) (eta k : Float) → Index eta → T (eq k f0) → 
 unfolding fAt
 nan-or-share wo wh eta k i z = fresnel-any (dot wo wh) eta k (dot-fits wo wh) i z
 
-at-not-below : (a : Vec2) (eta k ratio : Float) (reflection : Bool) (wo wi wh : Vec3) → Index eta → T (eq k f0)
-    → NotNegative (dielectricAt a eta k ratio reflection wo wi wh)
+at-not-below : (a : Vec2) (l eta k ratio : Float) (reflection : Bool) (wo wi wh : Vec3) → Index eta → T (eq k f0)
+    → NotNegative (dielectricAt a l eta k ratio reflection wo wi wh)
 unfolding dielectricAt
-at-not-below a eta k ratio reflection wo wi wh i z = go (isDiscarded (dot wo wh) (dot wi wh) wo wi) reflection
+at-not-below a l eta k ratio reflection wo wi wh i z = go (isDiscarded (dot wo wh) (dot wi wh) wo wi) reflection
   where
     F : Float
     F = fAt wo wh eta k
@@ -139,17 +142,17 @@ at-not-below a eta k ratio reflection wo wi wh i z = go (isDiscarded (dot wo wh)
     s = signs-of F (share-fits wo wh eta k) (nan-or-share wo wh eta k i z)
 
     go : (discarded reflection : Bool)
-        → NotNegative (cond discarded f0 (cond reflection (reflectedPdf a eta F wo wh) (passedPdf a eta ratio F wo wi wh)))
+        → NotNegative (cond discarded f0 (cond reflection (reflectedPdf a l eta F wo wh) (passedPdf a l eta ratio F wo wi wh)))
     go true reflection = f0-not-below
-    go false true = reflected-not-below a eta F wo wh s
-    go false false = passed-not-below a eta ratio F wo wi wh s
+    go false true = reflected-not-below a l eta F wo wh s
+    go false false = passed-not-below a l eta ratio F wo wi wh s
 
 pub dielectric-not-below : (a : Vec2) (eta k : Float) (reflection : Bool) (wo wi : Vec3) → Index eta → T (eq k f0)
     → NotNegative (dielectricPdf a eta k reflection wo wi)
-unfolding dielectricPdf
+unfolding dielectricPdf dielectricPdfWith
 dielectric-not-below a eta k reflection wo wi i z =
     let ratio = etaRatio reflection wo eta in
-    at-not-below a eta k ratio reflection wo wi (dielectricHalf eta ratio wo wi) i z
+    at-not-below a (lambda a wo) eta k ratio reflection wo wi (dielectricHalf eta ratio wo wi) i z
 
 -- ---- the laws
 pub density-of-not-below : (kind : Kind) (a : Vec2) (eta k : Float) (reflection : Bool) (wo wi : Vec3)

@@ -28,7 +28,7 @@ use Rattle.numbers.specs.SquareRoot.{sqrt, squareRoot, rootOfUnits}
 use Rattle.numbers.specs.SphericalUtils.{cos2Theta, sin2Theta, tan2Theta, sinTheta, cosPhi, sinPhi}
 use Rattle.numbers.specs.declared.vec2.Vec2.{Vec2}
 use Rattle.numbers.specs.declared.vec3.Vec3.{Vec3}
-use Rattle.optics.specs.Facets.{alpha2, lambdaOf, lambda, chiPass, masked, g1, g, gOverG1}
+use Rattle.optics.specs.Facets.{alpha2, lambdaOf, lambda, chiPass, masked, g1With, gWith, gOverG1With, gOverG1}
 use Rattle.optics.proofs.Sizes.{Upto, Span, Number, div-number, widen, expression, f0-upto, f1-upto, f-1-upto, f2-units, upto-one, not-neg, nlt-parts, ext-N, NonNeg, max-zero, root-upto}
 use Rattle.optics.proofs.SampledNormal.{Rough, rough-x, rough-y}
 use Rattle.optics.proofs.Fresnel.{Share, f0-share, ext-pos}
@@ -351,7 +351,7 @@ recip s f low =
     lin u p = omega arith
 
 pub weight-share : (a : Vec2) (wo wi wh : Vec3) → Rough a → Span 4294967296 wo → Span 4294967296 wi → Share (gOverG1 a wo wi wh)
-unfolding gOverG1 g1 g masked
+unfolding gOverG1 gOverG1With g1With gWith masked
 weight-share a wo wi wh r ho hi = seen (chiPass wo wh)
   where
     s : Float

@@ -10,7 +10,7 @@ use numbers::square_root::sqrt_or_zero;
 use numbers::vec2::Vec2;
 use numbers::vec3::Vec3;
 ghost use mathlib.Core.Path.{_≡_};
-ghost use Rattle.optics.specs.Facets.{isDelta, azimuth, lambda, chiPassAt, chiPass, g1At, g1, g, gOverG1, d, sampleNormalPdfAt, sampleNormalPdf, fSchlick, disneyDiffuse};
+ghost use Rattle.optics.specs.Facets.{isDelta, azimuth, lambda, lambdaFrom, chiPassAt, chiPass, g1At, g1, g, gOverG1With, gOverG1, d, sampleNormalPdfAt, sampleNormalPdf, fSchlick, disneyDiffuse};
 ghost use Rattle.optics.specs.Fresnel.{frFacing, frReal, complexCosI, rPar, rPer, frComplexFacing, frComplex, fresnel, fAt, f};
 ghost use Rattle.optics.specs.Surface.{etaAt, kAt, constantEta};
 ghost use Rattle.optics.specs.Sampler.{viewed, tangent, onHemisphere, combined, unstretched, sampleNormal};
@@ -29,6 +29,13 @@ pub struct Surface {
     pub kind: Kind,
     // Roughness of the surface (α) along x and y
     pub roughness: Vec2,
+}
+
+// What is known of Λ(wo): two roots, so that who needs it twice computes it once and hands it on. It is
+// computed where it is needed if it isn't known.
+pub enum Masking {
+    Known(f64),
+    Unknown,
 }
 
 // Whether the refraction index is the same at every wavelength.
@@ -135,6 +142,16 @@ impl Surface {
         (sqrt_or_zero(1.0 + alpha2 * tan2_theta) - 1.0) / 2.0
     }
 
+    // Λ(wo) by what is known of it.
+    fn lambda_from(self, masking: Masking, wo: Vec3) -> f64
+        ensures { λ r. ⌜ r ≡ lambdaFrom masking (self .roughness) wo ⌝ }
+    {
+        match masking {
+            Masking::Known(lambda_wo) => lambda_wo,
+            Masking::Unknown => self.lambda(wo),
+        }
+    }
+
     // Shadow-masking term. Used to make sure that only microfacets that are visible from `wo`
     // direction are considered. Uses the method described in Chapter 8.4.3 of PBR due to
     // Heitz et al. 2013.
@@ -150,18 +167,15 @@ impl Surface {
     pub fn g1(self, wo: Vec3, wh: Vec3) -> f64
         ensures { λ r. ⌜ r ≡ g1 (self .roughness) wo wh ⌝ }
     {
-        if chi_pass(wo, wh) {
-            return 1.0 / (1.0 + self.lambda(wo));
-        }
-        0.0
+        self.g1_at(Masking::Unknown, wo.dot(wh), wo, wh)
     }
 
-    // `g1` with `wo_dot_wh` at hand.
-    fn g1_at(self, wo_dot_wh: f64, wo: Vec3, wh: Vec3) -> f64
-        ensures { λ r. ⌜ r ≡ g1At (self .roughness) «wo_dot_wh» wo wh ⌝ }
+    // `g1` with what is known of Λ(wo), and `wo_dot_wh` at hand.
+    fn g1_at(self, masking: Masking, wo_dot_wh: f64, wo: Vec3, wh: Vec3) -> f64
+        ensures { λ r. ⌜ r ≡ g1At (lambdaFrom masking (self .roughness) wo) «wo_dot_wh» wo wh ⌝ }
     {
         if chi_pass_at(wo_dot_wh, wo, wh) {
-            return 1.0 / (1.0 + self.lambda(wo));
+            return 1.0 / (1.0 + self.lambda_from(masking, wo));
         }
         0.0
     }
@@ -170,8 +184,15 @@ impl Surface {
     pub fn g_over_g1(self, wo: Vec3, wi: Vec3, wh: Vec3) -> f64
         ensures { λ r. ⌜ r ≡ gOverG1 (self .roughness) wo wi wh ⌝ }
     {
+        self.g_over_g1_with(Masking::Unknown, wo, wi, wh)
+    }
+
+    // `g_over_g1` with what is known of Λ(wo).
+    pub fn g_over_g1_with(self, masking: Masking, wo: Vec3, wi: Vec3, wh: Vec3) -> f64
+        ensures { λ r. ⌜ r ≡ gOverG1With (self .roughness) (lambdaFrom masking (self .roughness) wo) wo wi wh ⌝ }
+    {
         if chi_pass(wo, wh) {
-            let seen = 1.0 + self.lambda(wo);
+            let seen = 1.0 + self.lambda_from(masking, wo);
             let g1 = 1.0 / seen;
             if g1 == 0.0 {
                 return 0.0;
@@ -185,14 +206,14 @@ impl Surface {
     pub fn sample_normal_pdf(self, wh: Vec3, wo: Vec3) -> f64
         ensures { λ r. ⌜ r ≡ sampleNormalPdf (self .roughness) wh wo ⌝ }
     {
-        self.sample_normal_pdf_at(wo.dot(wh), wh, wo)
+        self.sample_normal_pdf_at(Masking::Unknown, wo.dot(wh), wh, wo)
     }
 
-    // `sample_normal_pdf` with `wo_dot_wh` at hand.
-    pub fn sample_normal_pdf_at(self, wo_dot_wh: f64, wh: Vec3, wo: Vec3) -> f64
-        ensures { λ r. ⌜ r ≡ sampleNormalPdfAt (self .roughness) «wo_dot_wh» wh wo ⌝ }
+    // `sample_normal_pdf` with what is known of Λ(wo), and `wo_dot_wh` at hand.
+    pub fn sample_normal_pdf_at(self, masking: Masking, wo_dot_wh: f64, wh: Vec3, wo: Vec3) -> f64
+        ensures { λ r. ⌜ r ≡ sampleNormalPdfAt (self .roughness) (lambdaFrom masking (self .roughness) wo) «wo_dot_wh» wh wo ⌝ }
     {
-        let g1 = self.g1_at(wo_dot_wh, wo, wh);
+        let g1 = self.g1_at(masking, wo_dot_wh, wo, wh);
         let d = self.d(wh);
         float::max(g1 * d * float::abs(wo_dot_wh) / float::abs(wo.z), 0.0)
     }

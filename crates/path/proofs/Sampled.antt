@@ -17,7 +17,7 @@ use Rattle.numbers.specs.declared.vec3.Vec3.{Vec3}
 use Rattle.numbers.proofs.Direction.{Direction}
 use Rattle.numbers.proofs.Interpolation.{AllFit, Index}
 use Rattle.optics.specs.Surface.{Microsurface, constantEta, etaAt, kAt, etaHolds, kHolds}
-use Rattle.optics.specs.Facets.{isDelta, g1, g, gOverG1}
+use Rattle.optics.specs.Facets.{isDelta, lambda, g1With, gWith, gOverG1With, gOverG1}
 use Rattle.optics.specs.Fresnel.{fAt}
 use Rattle.optics.specs.Sampler.{sampleNormal}
 use Rattle.optics.specs.Bxdf.{Scattered, scattered, lost, totally, conductorNormal, conductorFrom, isSmooth, dielectricNormal, dielectricFrom}
@@ -169,11 +169,12 @@ module _ (p : Path) (m : Microsurface) (b : Bounce) (h : Given p m b) where
 
   -- ---- the shadowing q
   q-fits : (wi : Vec3) → T (fits binary64 (gOverG1 (m .roughness) (localWo b) wi (facet m (lambdaOn m (p .lambda)) b)))
-  unfolding gOverG1 fits
+  unfolding gOverG1 gOverG1With fits
   q-fits wi =
       let wh = facet m (lambdaOn m (p .lambda)) b in
-      let first = g1 (m .roughness) (localWo b) wh in
-      let both = g (m .roughness) (localWo b) wi wh in
+      let lambdaWo = lambda (m .roughness) (localWo b) in
+      let first = g1With lambdaWo (localWo b) wh in
+      let both = gWith (m .roughness) lambdaWo (localWo b) wi wh in
       cond-fits binary64 (eq first f0) f0 (both ⊘ first) tt (div-fits binary64 both first)
 
   pub shadowing-weight : (wi : Vec3) (reflection : Bool) → scatter m (lambdaOn m (p .lambda)) b ≡ scattered wi reflection

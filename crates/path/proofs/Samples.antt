@@ -23,7 +23,7 @@ use Rattle.optics.specs.Surface.{Microsurface, roughnessMin, isRoughness, rough
 use Rattle.optics.specs.Facets.{half, isDelta}
 use Rattle.optics.specs.Fresnel.{sin2I, isTotal, cosI, fresnel, fAt}
 use Rattle.optics.specs.Bxdf.{scattered, direction, mirrored, reflect, bent, acrossOnly, refractFacing, refract, branch, conductorNormal, conductorFrom, isSmooth, dielectricNormal, rest, reflects, dielectricFrom}
-use Rattle.optics.specs.Density.{onZSide, atZ, conductorHalf, conductorPdf, etaRatio, dielectricHalf, isDiscarded, reflectedPdf, passedPdf, dielectricAt, dielectricPdf, pdfOf, pdf}
+use Rattle.optics.specs.Density.{onZSide, atZ, conductorHalf, conductorPdfWith, conductorPdf, etaRatio, dielectricHalf, isDiscarded, reflectedPdf, passedPdf, dielectricAt, dielectricPdfWith, dielectricPdf, pdfOf, pdf}
 use Rattle.optics.specs.Checked.{accepted, refuse, checkSurface, checkDirection, isRandom, checkRandom, isCirclePair, checkCirclePair}
 use Rattle.optics.specs.Samples.{quarter, three-quarters}
 use Rattle.optics.specs.declared.microfacet.Kind.the-variants.{Metal, Glass}
@@ -137,7 +137,7 @@ unfolding metalShare isNan le mul
 metal-weight-half = refl
 
 metal-density : (a : Vec2) → isDelta a ≡ true → conductorPdf a Z Z' ≡ f1
-unfolding conductorPdf sameHemisphere cosTheta conductorHalf onZSide atZ normalize length lengthSquared dot divFloat negate V3.add epsilon decimal max isNan squareRoot add sub mul div neg lt
+unfolding conductorPdf conductorPdfWith sameHemisphere cosTheta conductorHalf onZSide atZ normalize length lengthSquared dot divFloat negate V3.add epsilon decimal max isNan squareRoot add sub mul div neg lt
 metal-density a h = rw h
 
 module _ (a : Vec2) (eta k : List Float) (delta : isDelta a ≡ true) (eta-1 : Reads eta f1) (k-2 : Reads k f2) where
@@ -232,11 +232,11 @@ module _ (a : Vec2) (delta : isDelta a ≡ true) where
   smooth-3 = delta
 
   reflected-density : dielectricPdf a f3 f0 true Z Z ≡ quarter
-  unfolding dielectricPdf etaRatio dielectricHalf onZSide dielectricAt isDiscarded reflectedPdf atZ rest fAt normalize length lengthSquared dot divFloat mulFloat negate V3.add cosTheta epsilon decimal max isNan squareRoot add sub mul div neg lt eq
+  unfolding dielectricPdf dielectricPdfWith etaRatio dielectricHalf onZSide dielectricAt isDiscarded reflectedPdf atZ rest fAt normalize length lengthSquared dot divFloat mulFloat negate V3.add cosTheta epsilon decimal max isNan squareRoot add sub mul div neg lt eq
   reflected-density = rw (fresnel-3, smooth-3)
 
   passed-density : dielectricPdf a f3 f0 false Z -Z ≡ three-quarters
-  unfolding dielectricPdf etaRatio dielectricHalf onZSide dielectricAt isDiscarded passedPdf atZ rest fAt normalize length lengthSquared dot divFloat mulFloat negate V3.add cosTheta epsilon decimal max isNan squareRoot add sub mul div neg lt eq
+  unfolding dielectricPdf dielectricPdfWith etaRatio dielectricHalf onZSide dielectricAt isDiscarded passedPdf atZ rest fAt normalize length lengthSquared dot divFloat mulFloat negate V3.add cosTheta epsilon decimal max isNan squareRoot add sub mul div neg lt eq
   passed-density = rw (fresnel-3, smooth-3)
 
 module _ (a : Vec2) (eta k : List Float) (delta : isDelta a ≡ true) (same : constantEta eta ≡ true) (eta-3 : Reads eta f3) (k-0 : Reads k f0) where

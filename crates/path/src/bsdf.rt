@@ -10,6 +10,7 @@ use crate::wavelength;
 use crate::weight;
 use numbers::float;
 use numbers::onb::Onb;
+use numbers::vec3::Vec3;
 use optics::bxdf::Sampled;
 use optics::bxdf::conductor;
 use optics::bxdf::dielectric;
@@ -17,11 +18,16 @@ use optics::checked::Check;
 use optics::color::Color;
 use optics::microfacet;
 use optics::microfacet::Kind;
+use optics::microfacet::Masking;
 use optics::microfacet::Surface;
 ghost use mathlib.Core.Path.{_≡_};
-ghost use Rattle.numbers.specs.Float.{f0};
+ghost use mathlib.Core.Bool.{cond};
+ghost use Rattle.numbers.specs.Float.{f0, f1};
 ghost use Rattle.optics.specs.Color.{color};
 ghost use Rattle.optics.specs.Surface.{microsurface};
+ghost use Rattle.optics.specs.Facets.{isDelta, lambda, lambdaFrom, gOverG1};
+ghost use Rattle.optics.specs.Bxdf.{isSmooth};
+ghost use Rattle.optics.specs.Density.{conductorPdf, dielectricPdf};
 ghost use Rattle.optics.specs.declared.microfacet.Kind.the-variants.{Metal, Glass};
 ghost use Rattle.path.specs.Path.{path, weighed};
 ghost use Rattle.path.specs.Bounce.{leftOnGlass};
@@ -60,14 +66,13 @@ fn on_metal(path: Path, surface: Surface, eta: &[f64], k: &[f64], b: Bounce) -> 
         return lost(path, Shares::None);
     };
 
-    let density = density_of(conductor::pdf(wo, wi, surface));
-    let q = weight::shadowing(surface, surface.is_delta(), wo, wi, wh);
+    let seen = seen_on_metal(surface, wo, wi, wh);
     let filter = weight::metal_filter(b.ks, microfacet::f(eta, k, wo, wh, path.lambda));
     Bounced::Reflected {
         wi: uvw.to_world(wi),
-        density: density,
+        density: density_of(seen.pdf),
         shares: Shares::None,
-        path: path.weighed(weight::weights(path.lambda, filter, q)),
+        path: path.weighed(weight::weights(path.lambda, filter, seen.q)),
     }
 }
 
@@ -101,22 +106,22 @@ fn on_glass(path: Path, surface: Surface, eta: &[f64], k: &[f64], b: Bounce) -> 
         return lost(left, shares);
     };
 
-    let density = density_of(dielectric::pdf(wo, wi, reflection, surface, index, absorption));
-    let q = weight::shadowing(surface, dielectric::is_smooth(surface, index), wo, wi, wh);
+    let seen = seen_on_glass(surface, index, absorption, wo, wi, wh, reflection);
+    let density = density_of(seen.pdf);
     let world = uvw.to_world(wi);
     if reflection {
         return Bounced::Reflected {
             wi: world,
             density: density,
             shares: shares,
-            path: left.weighed(weight::weights(lambda, b.ks, q)),
+            path: left.weighed(weight::weights(lambda, b.ks, seen.q)),
         };
     }
     Bounced::Passed {
         wi: world,
         density: density,
         shares: shares,
-        path: left.weighed(weight::weights(lambda, b.tf, q)),
+        path: left.weighed(weight::weights(lambda, b.tf, seen.q)),
     }
 }
 
@@ -128,6 +133,53 @@ fn left_on_glass(eta: &[f64], lambda: Color) -> Color
         return lambda;
     }
     wavelength::terminate(lambda)
+}
+
+// Of a sampled direction: its density, and the share q of the light that the facets let through to it.
+// Both read Λ(wo), which is computed once.
+struct Seen {
+    pdf: f64,
+    q: f64,
+}
+
+fn seen_on_metal(surface: Surface, wo: Vec3, wi: Vec3, wh: Vec3) -> Seen
+    ensures { λ r. ⌜ (r .pdf ≡ conductorPdf (surface .roughness) wo wi) × (r .q ≡ cond (isDelta (surface .roughness)) f1 (gOverG1 (surface .roughness) wo wi wh)) ⌝ }
+{
+    let delta = surface.is_delta();
+    let masking = masking(surface, delta, wo);
+    Seen {
+        pdf: conductor::pdf_with(masking, wo, wi, surface),
+        q: weight::shadowing(surface, delta, masking, wo, wi, wh),
+    }
+}
+
+fn seen_on_glass(
+    surface: Surface,
+    eta: f64,
+    k: f64,
+    wo: Vec3,
+    wi: Vec3,
+    wh: Vec3,
+    reflection: bool,
+) -> Seen
+    ensures { λ r. ⌜ (r .pdf ≡ dielectricPdf (surface .roughness) eta k reflection wo wi) × (r .q ≡ cond (isSmooth (surface .roughness) eta) f1 (gOverG1 (surface .roughness) wo wi wh)) ⌝ }
+{
+    let smooth = dielectric::is_smooth(surface, eta);
+    let masking = masking(surface, smooth, wo);
+    Seen {
+        pdf: dielectric::pdf_with(masking, wo, wi, reflection, surface, eta, k),
+        q: weight::shadowing(surface, smooth, masking, wo, wi, wh),
+    }
+}
+
+// Λ(wo), but where the surface scatters into one direction: there nothing reads it.
+fn masking(surface: Surface, one_direction: bool, wo: Vec3) -> Masking
+    ensures { λ r. ⌜ lambdaFrom r (surface .roughness) wo ≡ lambda (surface .roughness) wo ⌝ }
+{
+    if one_direction {
+        return Masking::Unknown;
+    }
+    Masking::Known(surface.lambda(wo))
 }
 
 // No power is left of light that is lost.

@@ -2,13 +2,14 @@
 use crate::wavelength::TERMINATED;
 use numbers::vec3::Vec3;
 use optics::color::Color;
+use optics::microfacet::Masking;
 use optics::microfacet::Surface;
 ghost use mathlib.Core.Path.{_≡_};
 ghost use mathlib.Core.Bool.{cond};
 ghost use lib.Ieee.{eq};
 ghost use Rattle.numbers.specs.Float.{_⊗_, f0, f1};
 ghost use Rattle.numbers.specs.DenseSpectrum.{terminated};
-ghost use Rattle.optics.specs.Facets.{gOverG1};
+ghost use Rattle.optics.specs.Facets.{lambdaFrom, gOverG1With};
 ghost use Rattle.path.specs.Path.{each2};
 ghost use Rattle.path.specs.Bounce.{metalShare};
 
@@ -21,14 +22,21 @@ pub const LOST: Color = Color {
 };
 
 // q: the share of the light that the facets let through to `wi`, and 1 where the surface scatters
-// into one direction.
-pub fn shadowing(surface: Surface, one_direction: bool, wo: Vec3, wi: Vec3, wh: Vec3) -> f64
-    ensures { λ r. ⌜ r ≡ cond «one_direction» f1 (gOverG1 (surface .roughness) wo wi wh) ⌝ }
+// into one direction. `masking` is what is known of Λ(wo).
+pub fn shadowing(
+    surface: Surface,
+    one_direction: bool,
+    masking: Masking,
+    wo: Vec3,
+    wi: Vec3,
+    wh: Vec3,
+) -> f64
+    ensures { λ r. ⌜ r ≡ cond «one_direction» f1 (gOverG1With (surface .roughness) (lambdaFrom masking (surface .roughness) wo) wo wi wh) ⌝ }
 {
     if one_direction {
         return 1.0;
     }
-    surface.g_over_g1(wo, wi, wh)
+    surface.g_over_g1_with(masking, wo, wi, wh)
 }
 
 // The share of light that metal reflects, from its Fresnel term `f`: rounding may take that above 1.

@@ -2,13 +2,15 @@
 use crate::bxdf;
 use crate::bxdf::Reflected;
 use crate::bxdf::Sampled;
+use crate::microfacet::Masking;
 use crate::microfacet::Surface;
 use numbers::float;
 use numbers::spherical_utils;
 use numbers::vec3::Vec3;
 ghost use mathlib.Core.Path.{_≡_};
+ghost use Rattle.optics.specs.Facets.{lambdaFrom};
 ghost use Rattle.optics.specs.Bxdf.{sampled, conductorNormal, conductorFrom, conductorSample};
-ghost use Rattle.optics.specs.Density.{conductorPdf};
+ghost use Rattle.optics.specs.Density.{conductorPdfWith, conductorPdf};
 
 // The facet's normal: Z if delta.
 pub fn normal(wo: Vec3, mfd: Surface, disk: f64, c: f64, s: f64) -> Vec3
@@ -53,6 +55,13 @@ pub fn sample(wo: Vec3, mfd: Surface, disk: f64, c: f64, s: f64) -> Sampled
 pub fn pdf(wo: Vec3, wi: Vec3, mfd: Surface) -> f64
     ensures { λ r. ⌜ r ≡ conductorPdf (mfd .roughness) wo wi ⌝ }
 {
+    pdf_with(Masking::Unknown, wo, wi, mfd)
+}
+
+// `pdf` with what is known of Λ(wo).
+pub fn pdf_with(masking: Masking, wo: Vec3, wi: Vec3, mfd: Surface) -> f64
+    ensures { λ r. ⌜ r ≡ conductorPdfWith (mfd .roughness) (lambdaFrom masking (mfd .roughness) wo) wo wi ⌝ }
+{
     // check if in same hemisphere or perpendicular to normal
     if spherical_utils::same_hemisphere(wi, wo) {
         let wh = bxdf::on_z_side(wo.add(wi).normalize());
@@ -60,7 +69,7 @@ pub fn pdf(wo: Vec3, wi: Vec3, mfd: Surface) -> f64
             return bxdf::at_z(wh, 1.0);
         }
         let wh_dot_wo = wo.dot(wh);
-        return mfd.sample_normal_pdf_at(wh_dot_wo, wh, wo) / (4.0 * float::abs(wh_dot_wo));
+        return mfd.sample_normal_pdf_at(masking, wh_dot_wo, wh, wo) / (4.0 * float::abs(wh_dot_wo));
     }
     0.0
 }

@@ -4,13 +4,15 @@ use crate::bxdf::Reflected;
 use crate::bxdf::Refracted;
 use crate::bxdf::Sampled;
 use crate::microfacet;
+use crate::microfacet::Masking;
 use crate::microfacet::Surface;
 use numbers::float;
 use numbers::vec3::Vec3;
 ghost use mathlib.Core.Path.{_≡_};
+ghost use Rattle.optics.specs.Facets.{lambdaFrom};
 ghost use Rattle.optics.specs.Bxdf.{sampled, isSmooth, dielectricNormal, dielectricFrom, dielectricSample};
 ghost use Rattle.numbers.specs.Vec3.{dot};
-ghost use Rattle.optics.specs.Density.{etaRatio, dielectricHalf, isDiscarded, reflectedPdf, passedPdf, dielectricAt, dielectricPdf};
+ghost use Rattle.optics.specs.Density.{etaRatio, dielectricHalf, isDiscarded, reflectedPdf, passedPdf, dielectricAt, dielectricPdfWith, dielectricPdf};
 
 // Glass that scatters into one direction: delta, or of the index 1.0.
 pub fn is_smooth(mfd: Surface, eta: f64) -> bool
@@ -77,9 +79,24 @@ pub fn sample(
 pub fn pdf(wo: Vec3, wi: Vec3, reflection: bool, mfd: Surface, eta: f64, k: f64) -> f64
     ensures { λ r. ⌜ r ≡ dielectricPdf (mfd .roughness) eta k reflection wo wi ⌝ }
 {
+    pdf_with(Masking::Unknown, wo, wi, reflection, mfd, eta, k)
+}
+
+// `pdf` with what is known of Λ(wo).
+pub fn pdf_with(
+    masking: Masking,
+    wo: Vec3,
+    wi: Vec3,
+    reflection: bool,
+    mfd: Surface,
+    eta: f64,
+    k: f64,
+) -> f64
+    ensures { λ r. ⌜ r ≡ dielectricPdfWith (mfd .roughness) (lambdaFrom masking (mfd .roughness) wo) eta k reflection wo wi ⌝ }
+{
     let ratio = eta_ratio(reflection, wo, eta);
     let wh = half(eta, ratio, wo, wi);
-    pdf_at(wo, wi, wh, reflection, mfd, eta, k, ratio)
+    pdf_at(masking, wo, wi, wh, reflection, mfd, eta, k, ratio)
 }
 
 fn eta_ratio(reflection: bool, wo: Vec3, eta: f64) -> f64
@@ -105,6 +122,7 @@ fn half(eta: f64, ratio: f64, wo: Vec3, wi: Vec3) -> Vec3
 }
 
 fn pdf_at(
+    masking: Masking,
     wo: Vec3,
     wi: Vec3,
     wh: Vec3,
@@ -114,7 +132,7 @@ fn pdf_at(
     k: f64,
     ratio: f64,
 ) -> f64
-    ensures { λ r. ⌜ r ≡ dielectricAt (mfd .roughness) eta k ratio reflection wo wi wh ⌝ }
+    ensures { λ r. ⌜ r ≡ dielectricAt (mfd .roughness) (lambdaFrom masking (mfd .roughness) wo) eta k ratio reflection wo wi wh ⌝ }
 {
     let wh_dot_wo = wo.dot(wh);
     let wh_dot_wi = wi.dot(wh);
@@ -123,9 +141,20 @@ fn pdf_at(
     }
     let pr = microfacet::fresnel(wh_dot_wo, eta, k);
     if reflection {
-        return reflected_pdf(mfd, eta, pr, wh_dot_wo, wo, wh);
+        return reflected_pdf(masking, mfd, eta, pr, wh_dot_wo, wo, wh);
     }
-    passed_pdf(mfd, eta, ratio, pr, wh_dot_wo, wh_dot_wi, wo, wi, wh)
+    passed_pdf(
+        masking,
+        mfd,
+        eta,
+        ratio,
+        pr,
+        wh_dot_wo,
+        wh_dot_wi,
+        wo,
+        wi,
+        wh,
+    )
 }
 
 // A facet along `wo` or `wi`, or a backfacing one.
@@ -145,19 +174,29 @@ fn is_discarded(wh_dot_wo: f64, wh_dot_wi: f64, wo: Vec3, wi: Vec3) -> bool
 }
 
 // Reflection, `pr` being its share.
-fn reflected_pdf(mfd: Surface, eta: f64, pr: f64, wh_dot_wo: f64, wo: Vec3, wh: Vec3) -> f64
+fn reflected_pdf(
+    masking: Masking,
+    mfd: Surface,
+    eta: f64,
+    pr: f64,
+    wh_dot_wo: f64,
+    wo: Vec3,
+    wh: Vec3,
+) -> f64
     requires { ⌜ «wh_dot_wo» ≡ dot wo wh ⌝ }
-    ensures { λ r. ⌜ r ≡ reflectedPdf (mfd .roughness) eta pr wo wh ⌝ }
+    ensures { λ r. ⌜ r ≡ reflectedPdf (mfd .roughness) (lambdaFrom masking (mfd .roughness) wo) eta pr wo wh ⌝ }
 {
     let pt = 1.0 - pr;
     if is_smooth(mfd, eta) {
         return bxdf::at_z(wh, pr / (pr + pt));
     }
-    mfd.sample_normal_pdf_at(wh_dot_wo, wh, wo) / (4.0 * float::abs(wh_dot_wo)) * pr / (pr + pt)
+    mfd.sample_normal_pdf_at(masking, wh_dot_wo, wh, wo) / (4.0 * float::abs(wh_dot_wo)) * pr
+        / (pr + pt)
 }
 
 // Transmission, `1.0 - pr` being its share.
 fn passed_pdf(
+    masking: Masking,
     mfd: Surface,
     eta: f64,
     ratio: f64,
@@ -169,13 +208,14 @@ fn passed_pdf(
     wh: Vec3,
 ) -> f64
     requires { ⌜ («wh_dot_wo» ≡ dot wo wh) × («wh_dot_wi» ≡ dot wi wh) ⌝ }
-    ensures { λ r. ⌜ r ≡ passedPdf (mfd .roughness) eta ratio pr wo wi wh ⌝ }
+    ensures { λ r. ⌜ r ≡ passedPdf (mfd .roughness) (lambdaFrom masking (mfd .roughness) wo) eta ratio pr wo wi wh ⌝ }
 {
     let pt = 1.0 - pr;
     if is_smooth(mfd, eta) {
         return bxdf::at_z(wh, pt / (pr + pt));
     }
     let root = wh_dot_wi + wh_dot_wo / ratio;
-    mfd.sample_normal_pdf_at(wh_dot_wo, wh, wo) * float::abs(wh_dot_wi) / (root * root) * pt
+    mfd.sample_normal_pdf_at(masking, wh_dot_wo, wh, wo) * float::abs(wh_dot_wi) / (root * root)
+        * pt
         / (pr + pt)
 }

@@ -90,17 +90,11 @@ returns c =
       ← c .lost .ensures,
     )
 
-pdf-requires : tie.Need-pdf-requires
-pdf-requires c κs = search needs
+seen-on-glass-requires : tie.Need-seen-on-glass-requires
+seen-on-glass-requires c κs = search needs
 
 density-of-requires : tie.Need-density-of-requires
 density-of-requires c κs = search needs
-
-is-smooth-requires : tie.Need-is-smooth-requires
-is-smooth-requires c κs = search needs
-
-shadowing-requires : tie.Need-shadowing-requires
-shadowing-requires c κs = search needs
 
 to-world-requires : tie.Need-to-world-requires
 to-world-requires c κs = search needs
@@ -117,11 +111,9 @@ returns-2 c =
     let at-weights = c .before in
     let at-if1 = at-weights .before in
     let at-to-world = at-if1 .before in
-    let at-shadowing = at-to-world .before in
-    let at-is-smooth = at-shadowing .before in
-    let at-density-of = at-is-smooth .before in
-    let at-pdf = at-density-of .before in
-    let at-wi = at-pdf .before .before in
+    let at-density-of = at-to-world .before in
+    let at-seen = at-density-of .before in
+    let at-wi = at-seen .before .before in
     let at-sample-from = at-wi .before .before in
     let at-f-at = at-sample-from .before in
     let at-normal = at-f-at .before in
@@ -158,14 +150,13 @@ returns-2 c =
       ← wo,
       ← wh,
       ← share-of,
-      ← at-pdf .pdf .ensures,
+      ← at-seen .seen-on-glass .ensures .0,
       ← at-density-of .density-of .ensures,
       ← at-to-world .to-world .ensures,
       at-if1 .if1 .taken,
       c .weighed .ensures,
       at-weights .weights .ensures,
-      at-shadowing .shadowing .ensures,
-      at-is-smooth .is-smooth .ensures,
+      at-seen .seen-on-glass .ensures .1,
     )
 
 weights-requires-2 : tie.Need-weights-requires-2
@@ -180,11 +171,9 @@ returns-3 c =
     let at-weights2 = c .before in
     let at-if1 = at-weights2 .before in
     let at-to-world = at-if1 .before in
-    let at-shadowing = at-to-world .before in
-    let at-is-smooth = at-shadowing .before in
-    let at-density-of = at-is-smooth .before in
-    let at-pdf = at-density-of .before in
-    let at-wi = at-pdf .before .before in
+    let at-density-of = at-to-world .before in
+    let at-seen = at-density-of .before in
+    let at-wi = at-seen .before .before in
     let at-sample-from = at-wi .before .before in
     let at-f-at = at-sample-from .before in
     let at-normal = at-f-at .before in
@@ -221,14 +210,13 @@ returns-3 c =
       ← wo,
       ← wh,
       ← share-of,
-      ← at-pdf .pdf .ensures,
+      ← at-seen .seen-on-glass .ensures .0,
       ← at-density-of .density-of .ensures,
       ← at-to-world .to-world .ensures,
       at-if1 .if1 .left,
       c .weighed2 .ensures,
       at-weights2 .weights2 .ensures,
-      at-shadowing .shadowing .ensures,
-      at-is-smooth .is-smooth .ensures,
+      at-seen .seen-on-glass .ensures .1,
     )
 
 pub on-glass-spec : {M : Type 1} → statement M
@@ -247,10 +235,8 @@ on-glass-spec =
     enum-known-wi
     lost-requires
     returns
-    pdf-requires
+    seen-on-glass-requires
     density-of-requires
-    is-smooth-requires
-    shadowing-requires
     to-world-requires
     weights-requires
     weighed-requires

@@ -63,17 +63,8 @@ returns-2 c =
       ← c .lost2 .ensures,
     )
 
-pdf-requires : tie.Need-pdf-requires
-pdf-requires c κs = search needs
-
-density-of-requires : tie.Need-density-of-requires
-density-of-requires c κs = search needs
-
-is-delta-requires : tie.Need-is-delta-requires
-is-delta-requires c κs = search needs
-
-shadowing-requires : tie.Need-shadowing-requires
-shadowing-requires c κs = search needs
+seen-on-metal-requires : tie.Need-seen-on-metal-requires
+seen-on-metal-requires c κs = search needs
 
 f-requires : tie.Need-f-requires
 f-requires c κs = search needs
@@ -83,6 +74,9 @@ metal-filter-requires c κs = search needs
 
 to-world-requires : tie.Need-to-world-requires
 to-world-requires c κs = search needs
+
+density-of-requires : tie.Need-density-of-requires
+density-of-requires c κs = search needs
 
 weights-requires : tie.Need-weights-requires
 weights-requires c κs = search needs
@@ -94,14 +88,12 @@ returns-3 : tie.Need-returns-3
 unfolding onSurface lambdaOn leftOn scatter scatterOn localWo facet facetOf shares sharesOn advanced weights worked weightFrom branchOf density pdf pdfOf filtered fresnelAt shadowing oneDirection outcome sampled f
 returns-3 c =
     let at-weights = c .before in
-    let at-to-world = at-weights .before in
+    let at-density-of = at-weights .before in
+    let at-to-world = at-density-of .before in
     let at-metal-filter = at-to-world .before in
     let at-f = at-metal-filter .before in
-    let at-shadowing = at-f .before in
-    let at-is-delta = at-shadowing .before in
-    let at-density-of = at-is-delta .before in
-    let at-pdf = at-density-of .before in
-    let at-wi = at-pdf .before .before in
+    let at-seen = at-f .before in
+    let at-wi = at-seen .before .before in
     let at-sample-from = at-wi .before .before in
     let at-normal = at-sample-from .before in
     let at-to-local = at-normal .before in
@@ -125,15 +117,14 @@ returns-3 c =
       ← basis,
       ← wo,
       ← wh,
-      ← at-pdf .pdf .ensures,
+      ← at-seen .seen-on-metal .ensures .0,
       ← at-density-of .density-of .ensures,
       ← at-to-world .to-world .ensures,
       c .weighed .ensures,
       at-weights .weights .ensures,
       at-metal-filter .metal-filter .ensures,
       at-f .f .ensures,
-      at-shadowing .shadowing .ensures,
-      at-is-delta .is-delta .ensures,
+      at-seen .seen-on-metal .ensures .1,
     )
 
 pub on-metal-spec : {M : Type 1} → statement M
@@ -149,13 +140,11 @@ on-metal-spec =
     enum-known-wi
     lost-requires-2
     returns-2
-    pdf-requires
-    density-of-requires
-    is-delta-requires
-    shadowing-requires
+    seen-on-metal-requires
     f-requires
     metal-filter-requires
     to-world-requires
+    density-of-requires
     weights-requires
     weighed-requires
     returns-3)

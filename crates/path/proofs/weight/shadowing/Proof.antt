@@ -8,12 +8,12 @@ returns : tie.Need-returns
 unfolding ofBits
 returns c = rw (c .if1 .taken)
 
-g-over-g1-requires : tie.Need-g-over-g1-requires
-g-over-g1-requires c κs = search needs
+g-over-g1-with-requires : tie.Need-g-over-g1-with-requires
+g-over-g1-with-requires c κs = search needs
 
 returns-2 : tie.Need-returns-2
 unfolding ofBits
-returns-2 c = rw (c .before .if1 .left, ← c .g-over-g1 .ensures)
+returns-2 c = rw (c .before .if1 .left, ← c .g-over-g1-with .ensures)
 
 pub shadowing-spec : {M : Type 1} → statement M
-shadowing-spec = tie.close (tie.spec returns g-over-g1-requires returns-2)
+shadowing-spec = tie.close (tie.spec returns g-over-g1-with-requires returns-2)

@@ -1,21 +1,16 @@
--- `optics::bxdf::dielectric::pdf` meets its contract: the calls give what their contracts promise, and the definition is read in the same order.
-use Rattle.optics.specs.Density.{dielectricPdf}
+-- `optics::bxdf::dielectric::pdf` meets its contract: it is `pdf_with` where nothing is known of Λ(wo).
 use borrow.Author.Needs.{needs}
+use Rattle.optics.specs.Facets.{lambdaFrom}
+use Rattle.optics.specs.Density.{dielectricPdf}
 use Rattle.optics.proofs.bxdf.dielectric.pdf.Statement.{statement}
 use Rattle.optics.proofs.bxdf.dielectric.pdf.Tie as tie
 
-eta-ratio-requires : tie.Need-eta-ratio-requires
-eta-ratio-requires c κs = search needs
-
-half-requires : tie.Need-half-requires
-half-requires c κs = search needs
-
-pdf-at-requires : tie.Need-pdf-at-requires
-pdf-at-requires c κs = search needs
+pdf-with-requires : tie.Need-pdf-with-requires
+pdf-with-requires c κs = search needs
 
 returns : tie.Need-returns
-unfolding dielectricPdf
-returns c = rw (← c .before .before .eta-ratio .ensures, ← c .before .half .ensures, ← c .pdf-at .ensures)
+unfolding dielectricPdf lambdaFrom
+returns c = rw (c .pdf-with .ensures)
 
 pub pdf-spec : {M : Type 1} → statement M
-pdf-spec = tie.close (tie.spec eta-ratio-requires half-requires pdf-at-requires returns)
+pdf-spec = tie.close (tie.spec pdf-with-requires returns)

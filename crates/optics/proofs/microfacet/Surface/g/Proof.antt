@@ -1,5 +1,5 @@
 -- `optics::microfacet::Surface::g` meets its contract: the calls give what their contracts promise, and the definition is read in the same order.
-use Rattle.optics.specs.Facets.{g, masked}
+use Rattle.optics.specs.Facets.{g, gWith, masked}
 use lib.Ieee.{ofBits}
 use borrow.Author.Needs.{needs}
 use Rattle.optics.proofs.microfacet.Surface.g.Statement.{statement}
@@ -15,7 +15,7 @@ lambda-requires-2 : tie.Need-lambda-requires-2
 lambda-requires-2 c κs = search needs
 
 returns : tie.Need-returns
-unfolding g masked ofBits
+unfolding g gWith masked ofBits
 returns c =
     rw (
       ← c .before .before .before .chi-pass .ensures,
@@ -25,7 +25,7 @@ returns c =
     )
 
 returns-2 : tie.Need-returns-2
-unfolding g masked ofBits
+unfolding g gWith masked ofBits
 returns-2 c = rw (← c .before .chi-pass .ensures, c .if1 .left)
 
 pub g-spec : {M : Type 1} → statement M

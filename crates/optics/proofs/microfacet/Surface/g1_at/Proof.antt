@@ -8,16 +8,16 @@ use Rattle.optics.proofs.microfacet.Surface.g1_at.Tie as tie
 chi-pass-at-requires : tie.Need-chi-pass-at-requires
 chi-pass-at-requires c κs = search needs
 
-lambda-requires : tie.Need-lambda-requires
-lambda-requires c κs = search needs
+lambda-from-requires : tie.Need-lambda-from-requires
+lambda-from-requires c κs = search needs
 
 returns : tie.Need-returns
 unfolding g1At masked ofBits
-returns c = rw (← c .before .before .chi-pass-at .ensures, c .before .if1 .taken, ← c .lambda .ensures)
+returns c = rw (← c .before .before .chi-pass-at .ensures, c .before .if1 .taken, ← c .lambda-from .ensures)
 
 returns-2 : tie.Need-returns-2
 unfolding g1At masked ofBits
 returns-2 c = rw (← c .before .chi-pass-at .ensures, c .if1 .left)
 
 pub g1-at-spec : {M : Type 1} → statement M
-g1-at-spec = tie.close (tie.spec chi-pass-at-requires lambda-requires returns returns-2)
+g1-at-spec = tie.close (tie.spec chi-pass-at-requires lambda-from-requires returns returns-2)

@@ -1,45 +1,15 @@
--- `optics::microfacet::Surface::g_over_g1` meets its contract: the calls give what their contracts promise, and the definition is read in the same order.
-use Rattle.optics.specs.Facets.{gOverG1, g, g1, masked}
-use lib.Ieee.{ofBits, eq}
+-- `optics::microfacet::Surface::g_over_g1` meets its contract: it is `g_over_g1_with` where nothing is known of Λ(wo).
 use borrow.Author.Needs.{needs}
+use Rattle.optics.specs.Facets.{gOverG1, lambdaFrom}
 use Rattle.optics.proofs.microfacet.Surface.g_over_g1.Statement.{statement}
 use Rattle.optics.proofs.microfacet.Surface.g_over_g1.Tie as tie
 
-chi-pass-requires : tie.Need-chi-pass-requires
-chi-pass-requires c κs = search needs
-
-lambda-requires : tie.Need-lambda-requires
-lambda-requires c κs = search needs
+g-over-g1-with-requires : tie.Need-g-over-g1-with-requires
+g-over-g1-with-requires c κs = search needs
 
 returns : tie.Need-returns
-unfolding gOverG1 g g1 masked ofBits
-returns c =
-    rw (
-      ← c .before .before .before .chi-pass .ensures,
-      c .before .before .if1 .taken,
-      ← c .before .lambda .ensures,
-      c .if2 .taken,
-    )
-
-lambda-requires-2 : tie.Need-lambda-requires-2
-lambda-requires-2 c κs = search needs
-
-returns-2 : tie.Need-returns-2
-unfolding gOverG1 g g1 masked ofBits
-returns-2 c =
-    rw (
-      ← c .before .before .before .before .chi-pass .ensures,
-      c .before .before .before .if1 .taken,
-      ← c .before .before .lambda .ensures,
-      c .before .if2 .left,
-      ← c .lambda2 .ensures,
-    )
-
-returns-3 : tie.Need-returns-3
-unfolding gOverG1 g g1 masked ofBits eq
-returns-3 c = rw (← c .before .chi-pass .ensures, c .if1 .left)
+unfolding gOverG1 lambdaFrom
+returns c = rw (c .g-over-g1-with .ensures)
 
 pub g-over-g1-spec : {M : Type 1} → statement M
-g-over-g1-spec =
-    tie.close
-    (tie.spec chi-pass-requires lambda-requires returns lambda-requires-2 returns-2 returns-3)
+g-over-g1-spec = tie.close (tie.spec g-over-g1-with-requires returns)
