@@ -62,6 +62,7 @@ at-z-not-below wh x h = go (lt (f1 ⊖ cosTheta wh) epsilon)
     go true = h
     go false = f0-not-below
 
+-- l stands for Λ(wo): nothing is asked of it
 sampled-not-below : (a : Vec2) (l : Float) (wh wo : Vec3) → NotNegative (sampleNormalPdfWith a l wh wo)
 unfolding sampleNormalPdfWith
 sampled-not-below a l wh wo = max-not-below (g1With l wo wh ⊗ d a wh ⊗ abs (dot wh wo) ⊘ abs (cosTheta wo))

@@ -34,17 +34,17 @@ lambdaOf t = (sqrt (max (f1 ⊕ t) f0) ⊖ f1) ⊘ f2
 unfoldable pub lambda : Vec2 → Vec3 → Float
 lambda a w = cond (isInfinite (tan2Theta w)) f0 (lambdaOf (alpha2 a w ⊗ tan2Theta w))
 
+-- Λ(wo) by what is known of it: at hand, or still to be computed
+unfoldable pub lambdaFrom : Masking → Vec2 → Vec3 → Float
+lambdaFrom (Known lambdaWo) a wo = lambdaWo
+lambdaFrom Unknown a wo = lambda a wo
+
 -- ---- χ⁺: whether wo sees the facet's front. The sign of wh's cosine is there for refraction; at EPSILON itself it is false.
 unfoldable pub chiPassAt : Float → Vec3 → Vec3 → Bool
 chiPassAt woDotWh wo wh = lt epsilon (signum (cosTheta wh) ⊗ woDotWh ⊗ cosTheta wo)
 
 unfoldable pub chiPass : Vec3 → Vec3 → Bool
 chiPass wo wh = chiPassAt (dot wo wh) wo wh
-
--- Λ(wo) by what is known of it: at hand, or still to be computed
-unfoldable pub lambdaFrom : Masking → Vec2 → Vec3 → Float
-lambdaFrom (Known lambdaWo) a wo = lambdaWo
-lambdaFrom Unknown a wo = lambda a wo
 
 -- ---- G1(wo) = 1 / (1 + Λ(wo)) and G(wo, wi) = 1 / (1 + Λ(wo) + Λ(wi)), summed in this order; 0 where wo doesn't see the facet
 -- The forms `..With` are from Λ(wo) at hand, and the forms `..At` from the cosine wo · wh besides.
