@@ -177,6 +177,8 @@ pub fn bench(seed: u64, functions: &[Function]) {
     println!("{:<46} {:>8} {:>8} {:>6}", format!("ns, least of {PASSES} passes over {SIZE} inputs"), "here", "Rust", "ratio");
     let (a, b) = least(&mut rng, normal, |d| array(d, here), |d| array(d, rust));
     line("square root, array of normal values", a, b);
+    let (a, b) = least(&mut rng, |rng| rng.between(0.0, 1.0), |d| array(d, here), |d| array(d, rust));
+    line("square root, array of values from 0 to 1", a, b);
     let (a, b) = least(&mut rng, normal, |d| array(d, here), array_inline);
     line("  against the instruction with no call", a, b);
     let (a, b) = least(&mut rng, normal, |d| chain(d, here), |d| chain(d, rust));

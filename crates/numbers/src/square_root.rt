@@ -210,8 +210,8 @@ fn is_nearest(m: u64, q: u64) -> bool
     w - t <= 2 * q
 }
 
-// Whether the guess g is the root of x. Its digits q are what its pattern has above e, where the pattern of
-// the root has the exponent; m is the digits of x, and twice them where the exponent is odd.
+// Whether the guess g is the root of x: its exponent is half that of x, and its digits are the nearest to
+// the root of m, which is the digits of x, and twice them where the exponent is odd.
 fn is_root(g: f64, x: f64) -> bool
     requires { ⌜ IsNormal x × T (fits binary64 g) ⌝ }
     ensures { λ r. ⌜ (T r → g ≡ sqrt x) ⌝ }
@@ -221,17 +221,12 @@ fn is_root(g: f64, x: f64) -> bool
     }
     let bits = f64::to_bits(x);
     let f = bits / HIDDEN;
-    let m = (bits % HIDDEN + HIDDEN) * (2 - f % 2);
-    let e = (f + 1021) / 2 * HIDDEN;
     let p = f64::to_bits(g);
-    if p < e {
+    if p / HIDDEN != (f + 1023) / 2 {
         return false;
     }
-    let q = p - e;
-    if 2 * HIDDEN <= q {
-        return false;
-    }
-    is_nearest(m, q)
+    let m = (bits % HIDDEN + HIDDEN) * (2 - f % 2);
+    is_nearest(m, p % HIDDEN + HIDDEN)
 }
 
 // IEEE 754's square root. Where the guess is right it is itself what is returned, so that what needs

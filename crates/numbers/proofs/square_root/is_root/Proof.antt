@@ -1,6 +1,6 @@
--- `is_root` meets its contract, by `fast-root` of RootGuess: the pattern that is put together of the exponent and the digits is that of the guess.
+-- `is_root` meets its contract, by `fast-root` of RootGuess: the pattern with the root's exponent and the nearest digits is the guess's own.
 use mathlib.Core.Path.{_≡_, sym, ap, _∙_}
-use Prim.Native.Nat.{_+_, _-_, _*_, _/_, _^_}
+use Prim.Native.Nat.{_+_, _-_, _*_, _/_, _%_, _^_}
 use native.Mathlib.Omega.{arith}
 use borrow.Author.Needs.{needs}
 use lib.Ieee.{binary64, toBits, ofBits, fits}
@@ -17,6 +17,15 @@ returns c = λ h. absurd h
 float-to-bits-bits : tie.Need-float-to-bits-bits
 float-to-bits-bits c = positive-number (c .before .args .x) (c .before .pre .0 .0)
 
+float-to-bits-p : tie.Need-float-to-bits-p
+float-to-bits-p c = not-nan (c .before .args .g) (c .if1 .left)
+
+add-if2 : tie.Need-add-if2
+add-if2 c = search needs
+
+returns-2 : tie.Need-returns-2
+returns-2 c = λ h. absurd h
+
 add-m : tie.Need-add-m
 add-m c = search needs
 
@@ -25,41 +34,26 @@ sub-m c = search needs
 
 mul-m : tie.Need-mul-m
 mul-m c =
-    let b = toBits binary64 (c .before .args .x) in
+    let b = toBits binary64 (c .before .before .args .x) in
     omega (arith, mantissa-in b (b / 2 ^ 52))
 
-add-e : tie.Need-add-e
-add-e c = search needs
-
-mul-e : tie.Need-mul-e
-mul-e c = search needs
-
-float-to-bits-p : tie.Need-float-to-bits-p
-float-to-bits-p c = not-nan (c .before .args .g) (c .if1 .left)
-
-returns-2 : tie.Need-returns-2
-returns-2 c = λ h. absurd h
-
-mul-if3 : tie.Need-mul-if3
-mul-if3 c = search needs
-
-returns-3 : tie.Need-returns-3
-returns-3 c = λ h. absurd h
+add-is-nearest : tie.Need-add-is-nearest
+add-is-nearest c = search needs
 
 is-nearest-requires : tie.Need-is-nearest-requires
 is-nearest-requires c κs =
-    let b = toBits binary64 (c .before .before .before .args .x) in
+    let b = toBits binary64 (c .before .before .args .x) in
     let i = mantissa-in b (b / 2 ^ 52) in
     (omega arith, omega arith)
 
-returns-4 : tie.Need-returns-4
-returns-4 c =
-    let k = c .before .before .before .before in
+returns-3 : tie.Need-returns-3
+returns-3 c =
+    let k = c .before .before .before in
     let x = k .args .x in
     let g = k .args .g in
     let f = toBits binary64 x / 2 ^ 52 in
     let p = toBits binary64 g in
-    let q = p - (f + 1021) / 2 * 2 ^ 52 in
+    let q = p % 2 ^ 52 + 2 ^ 52 in
     let n = k .pre .0 in
     let same : p ≡ ((f + 1073) / 2 - 26) * 2 ^ 52 + q = omega arith in
     λ h.
@@ -73,14 +67,12 @@ is-root-spec =
     (tie.spec
     returns
     float-to-bits-bits
+    float-to-bits-p
+    add-if2
+    returns-2
     add-m
     sub-m
     mul-m
-    add-e
-    mul-e
-    float-to-bits-p
-    returns-2
-    mul-if3
-    returns-3
+    add-is-nearest
     is-nearest-requires
-    returns-4)
+    returns-3)
