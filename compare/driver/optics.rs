@@ -7,6 +7,7 @@ use super::surfaces::*;
 use crate::functions;
 use crate::tracer::bxdf::microfacet::{conductor, dielectric, util};
 use crate::tracer::bxdf::BxDF;
+use crate::tracer::microfacet::MfDistribution;
 use crate::tracer::ColorWavelength;
 use crate::stand_in::Random;
 use crate::{Vec2, Vec3};
@@ -167,16 +168,17 @@ fn metal_pdf(a: Vec2, wo: Vec3, wi: Vec3, reflection: bool) -> f64 {
         let one = crate::tracer::DenseSpectrum::from_constant;
         BxDF::MfConductor(distribution(a, one(1.0), one(2.0)))
     });
-    if let BxDF::MfConductor(crate::tracer::microfacet::MfDistribution::Ggx(cfg)) = metal {
+    if let BxDF::MfConductor(MfDistribution::Ggx(cfg)) = metal {
         cfg.roughness = a;
     }
     metal.pdf(wo, wi, reflection, &leading())
 }
 
 /// g over g1 by document 01's weight: 0 where g1 is 0.
-fn g_over_g1(a: Vec2, wo: Vec3, wi: Vec3, wh: Vec3) -> f64 {
-    let g1 = facets(a).g1(wo, wh);
-    if g1 == 0.0 { 0.0 } else { facets(a).g(wo, wi, wh) / g1 }
+#[inline]
+pub fn g_over_g1(of: &MfDistribution, wo: Vec3, wi: Vec3, wh: Vec3) -> f64 {
+    let g1 = of.g1(wo, wh);
+    if g1 == 0.0 { 0.0 } else { of.g(wo, wi, wh) / g1 }
 }
 
 functions! {
@@ -188,7 +190,7 @@ functions! {
     906 optics_chi_pass(wo: Vec3, wh: Vec3) -> bool = facets(Vec2::splat(1.0)).chi_pass(wo, wh);
     907 optics_g(a: Vec2, wo: Vec3, wi: Vec3, wh: Vec3) -> f64 = facets(a).g(wo, wi, wh);
     908 optics_g1(a: Vec2, wo: Vec3, wh: Vec3) -> f64 = facets(a).g1(wo, wh);
-    909 optics_g_over_g1(a: Vec2, wo: Vec3, wi: Vec3, wh: Vec3) -> f64 = g_over_g1(a, wo, wi, wh);
+    909 optics_g_over_g1(a: Vec2, wo: Vec3, wi: Vec3, wh: Vec3) -> f64 = g_over_g1(facets(a), wo, wi, wh);
     910 optics_sample_normal_pdf(a: Vec2, wh: Vec3, wo: Vec3) -> f64 = facets(a).sample_normal_pdf(wh, wo);
     911 optics_sample_normal(a: Vec2, wo: Vec3, disk: f64, c: f64, s: f64) -> Vec3 = facets(a).sample_normal(wo, Random { x: disk, y: 0.0, c, s });
     912 optics_fr_real(cosine: f64, eta: f64) -> f64 = {
@@ -433,14 +435,14 @@ impl Fields<'_> {
         }
         let of = &mut last.as_mut().unwrap().3;
         if let BxDF::MfConductor(d) | BxDF::MfDielectric(d) = of {
-            if let crate::tracer::microfacet::MfDistribution::Ggx(cfg) = d {
+            if let MfDistribution::Ggx(cfg) = d {
                 cfg.roughness = self.a;
             }
         }
         of
     }
 
-    fn distribution(&self) -> &'static crate::tracer::microfacet::MfDistribution {
+    fn distribution(&self) -> &'static MfDistribution {
         match self.rust() {
             BxDF::MfConductor(d) | BxDF::MfDielectric(d) => d,
             _ => unreachable!(),

@@ -3,7 +3,7 @@
 use super::harness::*;
 use super::inputs::{near_unit, Rng};
 use super::numbers::record;
-use super::optics::{caught, Color, Written};
+use super::optics::{caught, g_over_g1, Color, Written};
 use super::spectra;
 use super::surfaces::*;
 use crate::stand_in::Random;
@@ -155,6 +155,12 @@ pub fn refused(p: &Path, s: &Surface, b: &Bounce) -> u64 {
 const NO_DENSITY: Density = Density { finite: false, value: 0.0 };
 const NO_SHARES: Shares = Shares { there: false, reflected: 0.0, passed: 0.0 };
 
+/// A density as a bounce hands it out: only if it is finite.
+#[inline]
+fn handed_out(density: f64) -> Density {
+    if density.is_finite() { Density { finite: true, value: density } } else { NO_DENSITY }
+}
+
 fn random_of(b: &Bounce) -> Random {
     Random { x: b.disk, y: 0.0, c: b.c, s: b.s }
 }
@@ -210,16 +216,10 @@ pub fn rust(p: &Path, of: &Lumo, b: &Bounce) -> Bounced {
         return Bounced { number: 0, case: LOST, wi: Vec3::ZERO, density: NO_DENSITY, shares, path: powers([0.0; 4]) };
     };
     let reflection = !s.glass || b.u < share / (share + (1.0 - share));
-    let density = bxdf.pdf(wo, wi, reflection, &lambda);
-    let density = if density.is_finite() { Density { finite: true, value: density } } else { NO_DENSITY };
+    let density = handed_out(bxdf.pdf(wo, wi, reflection, &lambda));
 
     // the weights
-    let q = if one_direction {
-        1.0
-    } else {
-        let g1 = of_facets.g1(wo, wh);
-        if g1 == 0.0 { 0.0 } else { of_facets.g(wo, wi, wh) / g1 }
-    };
+    let q = if one_direction { 1.0 } else { g_over_g1(of_facets, wo, wi, wh) };
     let weight = |i: usize| {
         let wl = left[i];
         if wl == 0.0 {
@@ -727,14 +727,8 @@ pub extern "C-unwind" fn plain(p: Path, s: &Surface, b: Bounce) -> Bounced {
     let Some(wi) = sampled else {
         return lost(&lambda, shares);
     };
-    let density = bxdf.pdf(wo, wi, reflection, &lambda);
-    let density = if density.is_finite() { Density { finite: true, value: density } } else { NO_DENSITY };
-    let q = if one_direction {
-        1.0
-    } else {
-        let g1 = of_facets.g1(wo, wh);
-        if g1 == 0.0 { 0.0 } else { of_facets.g(wo, wi, wh) / g1 }
-    };
+    let density = handed_out(bxdf.pdf(wo, wi, reflection, &lambda));
+    let q = if one_direction { 1.0 } else { g_over_g1(of_facets, wo, wi, wh) };
     let filter = if reflection { &b.ks } else { &b.tf };
     let mut power = [0.0; 4];
     for i in 0..4 {

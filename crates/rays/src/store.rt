@@ -135,21 +135,21 @@ pub fn fill(values: &mut [f64]) {
 }
 
 pub fn path(paths: &[f64], i: u64) -> Path {
-    let from = (i % PATHS) as usize * 8;
+    let from = (i % PATHS) as u32 * 8;
     Path {
         lambda: color(paths, from),
         power: color(paths, from + 4),
     }
 }
 
-pub fn color(values: &[f64], from: usize) -> Color
-    requires { ⌜ from ≤ 100000 ⌝ }
-{
+// Four numbers from a place on, which is a u32 so that no sum with it wraps.
+pub fn color(values: &[f64], from: u32) -> Color {
+    let i = from as usize;
     Color {
-        s0: at(values, from),
-        s1: at(values, from + 1),
-        s2: at(values, from + 2),
-        s3: at(values, from + 3),
+        s0: at(values, i),
+        s1: at(values, i + 1),
+        s2: at(values, i + 2),
+        s3: at(values, i + 3),
     }
 }
 
