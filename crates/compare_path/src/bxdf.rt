@@ -7,8 +7,7 @@ use numbers::vec3::Vec3;
 use optics::bxdf;
 use optics::bxdf::conductor;
 use optics::bxdf::dielectric;
-use optics::microfacet::Kind;
-use optics::microfacet::Surface;
+use optics::microfacet::Ggx;
 ghost use mathlib.Core.Path.{_≡_};
 ghost use Rattle.optics.specs.Bxdf.{reflect, refract, conductorSample, dielectricSample};
 ghost use Rattle.optics.specs.Density.{conductorPdf, dielectricPdf, pdfOf};
@@ -38,10 +37,7 @@ pub extern "C" fn optics_conductor_sample(
 ) -> ScatteredResult
     ensures { λ r. ⌜ r ≡ scatteredResult (conductorSample a wo disk c s) ⌝ }
 {
-    let mfd = Surface {
-        kind: Kind::Metal,
-        roughness: a,
-    };
+    let mfd = Ggx { roughness: a };
     results::of_sampled(conductor::sample(wo, mfd, disk, c, s))
 }
 
@@ -58,10 +54,7 @@ pub extern "C" fn optics_dielectric_sample(
 ) -> ScatteredResult
     ensures { λ r. ⌜ r ≡ scatteredResult (dielectricSample a eta k wo u disk c s) ⌝ }
 {
-    let mfd = Surface {
-        kind: Kind::Glass,
-        roughness: a,
-    };
+    let mfd = Ggx { roughness: a };
     results::of_sampled(dielectric::sample(wo, mfd, eta, k, u, disk, c, s))
 }
 
@@ -69,10 +62,7 @@ pub extern "C" fn optics_dielectric_sample(
 pub extern "C" fn optics_conductor_pdf(a: Vec2, wo: Vec3, wi: Vec3) -> f64
     ensures { λ r. ⌜ r ≡ conductorPdf a wo wi ⌝ }
 {
-    let mfd = Surface {
-        kind: Kind::Metal,
-        roughness: a,
-    };
+    let mfd = Ggx { roughness: a };
     conductor::pdf(wo, wi, mfd)
 }
 
@@ -87,10 +77,7 @@ pub extern "C" fn optics_dielectric_pdf(
 ) -> f64
     ensures { λ r. ⌜ r ≡ dielectricPdf a eta k reflection wo wi ⌝ }
 {
-    let mfd = Surface {
-        kind: Kind::Glass,
-        roughness: a,
-    };
+    let mfd = Ggx { roughness: a };
     dielectric::pdf(wo, wi, reflection, mfd, eta, k)
 }
 
@@ -106,6 +93,6 @@ pub extern "C" fn optics_pdf(
 ) -> f64
     ensures { λ r. ⌜ r ≡ pdfOf (kindOf glass) a eta k reflection wo wi ⌝ }
 {
-    let mfd = results::surface_of(glass, a);
-    bxdf::pdf(mfd, wo, wi, reflection, eta, k)
+    let mfd = Ggx { roughness: a };
+    bxdf::pdf(results::kind_of(glass), mfd, wo, wi, reflection, eta, k)
 }

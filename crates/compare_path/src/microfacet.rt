@@ -3,8 +3,7 @@ use numbers::vec2::Vec2;
 use numbers::vec3::Vec3;
 use optics::color::Color;
 use optics::microfacet;
-use optics::microfacet::Kind;
-use optics::microfacet::Surface;
+use optics::microfacet::Ggx;
 ghost use mathlib.Core.Path.{_≡_};
 ghost use Rattle.optics.specs.Facets.{isDelta, lambda, chiPass, g1, g, gOverG1, d, sampleNormalPdf, fSchlick, disneyDiffuse};
 ghost use Rattle.optics.specs.Fresnel.{frReal, frComplex, fAt, f};
@@ -36,24 +35,16 @@ pub extern "C" fn optics_k_at(k: &[f64], wl: f64) -> f64
 pub extern "C" fn optics_is_delta(a: Vec2) -> bool
     ensures { λ r. ⌜ r ≡ isDelta a ⌝ }
 {
-    // the kind is not read
-    let surface = Surface {
-        kind: Kind::Metal,
-        roughness: a,
-    };
-    surface.is_delta()
+    let facets = Ggx { roughness: a };
+    facets.is_delta()
 }
 
 #[no_mangle]
 pub extern "C" fn optics_disney_diffuse(a: Vec2, wo: f64, wi: f64, wh: f64) -> f64
     ensures { λ r. ⌜ r ≡ disneyDiffuse a wo wi wh ⌝ }
 {
-    // the kind is not read
-    let surface = Surface {
-        kind: Kind::Metal,
-        roughness: a,
-    };
-    surface.disney_diffuse(wo, wi, wh)
+    let facets = Ggx { roughness: a };
+    facets.disney_diffuse(wo, wi, wh)
 }
 
 #[no_mangle]
@@ -67,24 +58,16 @@ pub extern "C" fn optics_f_schlick(f0: f64, f90: f64, cosine: f64) -> f64
 pub extern "C" fn optics_d(a: Vec2, wh: Vec3) -> f64
     ensures { λ r. ⌜ r ≡ d a wh ⌝ }
 {
-    // the kind is not read
-    let surface = Surface {
-        kind: Kind::Metal,
-        roughness: a,
-    };
-    surface.d(wh)
+    let facets = Ggx { roughness: a };
+    facets.d(wh)
 }
 
 #[no_mangle]
 pub extern "C" fn optics_lambda(a: Vec2, w: Vec3) -> f64
     ensures { λ r. ⌜ r ≡ lambda a w ⌝ }
 {
-    // the kind is not read
-    let surface = Surface {
-        kind: Kind::Metal,
-        roughness: a,
-    };
-    surface.lambda(w)
+    let facets = Ggx { roughness: a };
+    facets.lambda(w)
 }
 
 #[no_mangle]
@@ -98,60 +81,40 @@ pub extern "C" fn optics_chi_pass(wo: Vec3, wh: Vec3) -> bool
 pub extern "C" fn optics_g(a: Vec2, wo: Vec3, wi: Vec3, wh: Vec3) -> f64
     ensures { λ r. ⌜ r ≡ g a wo wi wh ⌝ }
 {
-    // the kind is not read
-    let surface = Surface {
-        kind: Kind::Metal,
-        roughness: a,
-    };
-    surface.g(wo, wi, wh)
+    let facets = Ggx { roughness: a };
+    facets.g(wo, wi, wh)
 }
 
 #[no_mangle]
 pub extern "C" fn optics_g1(a: Vec2, wo: Vec3, wh: Vec3) -> f64
     ensures { λ r. ⌜ r ≡ g1 a wo wh ⌝ }
 {
-    // the kind is not read
-    let surface = Surface {
-        kind: Kind::Metal,
-        roughness: a,
-    };
-    surface.g1(wo, wh)
+    let facets = Ggx { roughness: a };
+    facets.g1(wo, wh)
 }
 
 #[no_mangle]
 pub extern "C" fn optics_g_over_g1(a: Vec2, wo: Vec3, wi: Vec3, wh: Vec3) -> f64
     ensures { λ r. ⌜ r ≡ gOverG1 a wo wi wh ⌝ }
 {
-    // the kind is not read
-    let surface = Surface {
-        kind: Kind::Metal,
-        roughness: a,
-    };
-    surface.g_over_g1(wo, wi, wh)
+    let facets = Ggx { roughness: a };
+    facets.g_over_g1(wo, wi, wh)
 }
 
 #[no_mangle]
 pub extern "C" fn optics_sample_normal_pdf(a: Vec2, wh: Vec3, wo: Vec3) -> f64
     ensures { λ r. ⌜ r ≡ sampleNormalPdf a wh wo ⌝ }
 {
-    // the kind is not read
-    let surface = Surface {
-        kind: Kind::Metal,
-        roughness: a,
-    };
-    surface.sample_normal_pdf(wh, wo)
+    let facets = Ggx { roughness: a };
+    facets.sample_normal_pdf(wh, wo)
 }
 
 #[no_mangle]
 pub extern "C" fn optics_sample_normal(a: Vec2, wo: Vec3, disk: f64, c: f64, s: f64) -> Vec3
     ensures { λ r. ⌜ r ≡ sampleNormal a wo disk c s ⌝ }
 {
-    // the kind is not read
-    let surface = Surface {
-        kind: Kind::Metal,
-        roughness: a,
-    };
-    surface.sample_normal(wo, disk, c, s)
+    let facets = Ggx { roughness: a };
+    facets.sample_normal(wo, disk, c, s)
 }
 
 #[no_mangle]

@@ -1,6 +1,6 @@
 -- The lookup of a spectrum at a wavelength from 360 to 830, on a grid of n equal whole steps that satisfies `Grid`: 94 steps of 5 do (`grid-5`), and 470 of 1 (`grid-1`).
 -- Proved: the entries that `sampleOneAt` reads exist, between grid points there is one on either side, and the weight of the upper one is from 0 to 1 (`place-of`);
--- where all entries are from lo to hi, the value lies in that range up to one part in 2 ^ 50 (`sample-nearly`); with entries from 0.01 to 100 it is from 1 / 128 to 128 (`sample-index`, for any such grid `sample-index-at`).
+-- where all entries are from lo to hi, the value lies in that range up to one part in 2 ^ 50 (`sample-nearly`); with entries from 0.01 to 100 it is from 1 / 128 to 128 (`sample-index`, for any such grid `sample-index-at`), which is inside the range of an index (`read-index`).
 -- A wavelength from 256 on is a multiple of 2 ^ -44, so one that is above a grid point is that far above, and the quotient by the step does not round down onto the point's index.
 use mathlib.Core.Path.{_≡_, refl, sym, ap, _∙_, subst}
 use mathlib.Core.Logic.{inl, inr}
@@ -912,7 +912,7 @@ entry-nearly lo hi x r = record { fin = r .fin; above = r .above; low = more (ma
     more' a b h = omega arith
 
 -- ---- the looked-up value
-entry-every : (p : Float → Bool) (values : List Float) (i : ℕ) → T (every p values) → i < length values → T (p (entry values i))
+pub entry-every : (p : Float → Bool) (values : List Float) (i : ℕ) → T (every p values) → i < length values → T (p (entry values i))
 unfolding every
 entry-every p [] i h l = absurd (not-le-of-lt l zero-le)
 entry-every p (v ∷ vs) zero h l = and-l (p v) (every p vs) h
@@ -932,7 +932,7 @@ entry-range lo hi values i n b f h e l =
     let t = entry-every (within lo hi) values i h (lt-of-le-of-lt l (lt-of-lt-of-le (omega arith) (le-of-eq (sym e)))) in
     range-of lo hi v (b .fin-lo) (b .fin-hi) (b .above-lo) (b .above-hi) (f i) (and-l (le lo v) (le v hi) t) (and-r (le lo v) (le v hi) t)
 
-not-terminated : (w : Float) → T (fits B w) → T (isWavelength w) → T (eq w terminated) → ⊥
+pub not-terminated : (w : Float) → T (fits B w) → T (isWavelength w) → T (eq w terminated) → ⊥
 unfolding le fits P N U
 not-terminated w f h t =
     let r = wave-range w f h in
@@ -972,12 +972,35 @@ sample-nearly step w lo hi s n values g i f h b e a t = started (eq w terminated
     started true z = absurd (z tt)
     started false z = away (eq w (upperLambda step w)) refl
 
--- ---- the index of refraction: document 01's entries of eta are from 0.01 to 100
-pub record Index (e : Float) : Type 0 where
+-- ---- from 1 / k to k
+pub record Around (k : ℕ) (e : Float) : Type 0 where
   pub fin : Fin e
   pub above : N e ≡ 0
-  pub low : U ≤ 128 * mag e
-  pub high : mag e ≤ 128 * U
+  pub low : U ≤ k * mag e
+  pub high : mag e ≤ k * U
+
+-- what is read of a spectrum whose entries are from 0.01 to 100, as document 01's eta
+abbrev pub readBits : ℕ
+readBits = 7
+
+abbrev pub readMost : ℕ
+readMost = 2 ^ readBits
+
+abbrev pub Read : Float → Type 0
+Read e = Around readMost e
+
+-- an index of refraction: the quotient of two such
+abbrev pub indexBits : ℕ
+indexBits = 2 * readBits
+
+abbrev pub indexMost : ℕ
+indexMost = 2 ^ indexBits
+
+abbrev pub Index : Float → Type 0
+Index e = Around indexMost e
+
+pub read-index : (e : Float) → Read e → Index e
+read-index e h = record { fin = h .fin; above = h .above; low = le-trans (h .low) (mul-le-mul-right (mag e) (lit≤ tt)); high = le-trans (h .high) (mul-le-mul-right U (lit≤ tt)) }
 
 pub eta-limits : Limits (decimal 1 100) (decimal 100 1)
 unfolding decimal fits N U O
@@ -987,22 +1010,22 @@ eta-sizes : (U ≤ 100 * mag (decimal 1 100)) × (mag (decimal 100 1) ≤ 100 * 
 unfolding decimal U
 eta-sizes = (lit≤ tt, lit≤ tt)
 
-index-nearly : (e : Float) → Nearly (decimal 1 100) (decimal 100 1) e → Index e
-index-nearly e h =
+read-nearly : (e : Float) → Nearly (decimal 1 100) (decimal 100 1) e → Read e
+read-nearly e h =
     let lo = mag (decimal 1 100) in
     let hi = mag (decimal 100 1) in
     record { fin = h .fin; above = h .above; low = at-least U lo (mag e) (eta-sizes .0) (h .low); high = at-most U hi (mag e) (eta-sizes .1) (h .high) }
   where
-    at-least : (u l m : ℕ) → u ≤ 100 * l → k50 * l ≤ k50 * m + l → u ≤ 128 * m
+    at-least : (u l m : ℕ) → u ≤ 100 * l → k50 * l ≤ k50 * m + l → u ≤ readMost * m
     at-least u l m a b = omega arith
 
-    at-most : (u l m : ℕ) → l ≤ 100 * u → k50 * m ≤ k50 * l + l → m ≤ 128 * u
+    at-most : (u l m : ℕ) → l ≤ 100 * u → k50 * m ≤ k50 * l + l → m ≤ readMost * u
     at-most u l m a b = omega arith
 
 pub sample-index-at : (step w : Float) (s n : ℕ) (values : List Float) → Grid s n → Is step false (s * U) → T (fits B w) → T (isWavelength w)
-    → length values ≡ suc n → AllFit values → T (allWithin (decimal 1 100) (decimal 100 1) values) → Index (sampleOneAt step values w)
+    → length values ≡ suc n → AllFit values → T (allWithin (decimal 1 100) (decimal 100 1) values) → Read (sampleOneAt step values w)
 sample-index-at step w s n values g i f h e a t =
-    index-nearly (sampleOneAt step values w) (sample-nearly step w (decimal 1 100) (decimal 100 1) s n values g i f h eta-limits e a t)
+    read-nearly (sampleOneAt step values w) (sample-nearly step w (decimal 1 100) (decimal 100 1) s n values g i f h eta-limits e a t)
 
 -- the table of the model: 95 entries, 5 apart
 pub dense-step : Is denseStep false (5 * U)
@@ -1012,7 +1035,7 @@ pub dense-place : (w : Float) → T (fits B w) → T (isWavelength w) → Place 
 dense-place w f h = place-of denseStep w 5 94 grid-5 dense-step f h
 
 pub sample-index : (w : Float) (values : List Float) → T (fits B w) → T (isWavelength w)
-    → length values ≡ denseSamples → AllFit values → T (allWithin (decimal 1 100) (decimal 100 1) values) → Index (sampleOne values w)
+    → length values ≡ denseSamples → AllFit values → T (allWithin (decimal 1 100) (decimal 100 1) values) → Read (sampleOne values w)
 unfolding sampleOne
 sample-index w values f h e a t = sample-index-at denseStep w 5 94 values grid-5 dense-step f h e a t
 

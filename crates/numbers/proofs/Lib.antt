@@ -13,6 +13,7 @@ pub mod RootBits
 pub mod RootGuess
 pub mod RootOrZero
 pub mod NearestRoot
+pub mod Checks
 pub mod Samples
 pub mod FloatBits
 pub mod Every

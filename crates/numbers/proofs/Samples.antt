@@ -1,25 +1,26 @@
 -- Document 01's starred samples about this crate (`Samples` of specs/Samples.antt), and roots
 -- that are known from elsewhere: each is computed from the definitions.
 use mathlib.Core.Path.{_≡_, refl}
-use mathlib.Core.Bool.{false, _&&_}
-use mathlib.Core.List.{List}
-use lib.Dec.{T, eqb}
+use mathlib.Core.Bool.{true, false, _&&_}
+use mathlib.Core.List.{List, _∷_}
 use lib.IntN.{pos, negsuc}
-use lib.ListN.{length}
 use lib.Ieee.Bits.{is-true}
 use lib.Ieee.{Float, fin, binary32, binary64, add, sub, mul, div, lt, le, eq, ofInt, toUnsigned, toBits}
-use Rattle.numbers.specs.Float.{decimal, f2, within}
+use Rattle.numbers.specs.Float.{decimal, f0, f1, f2, within}
 use Rattle.numbers.specs.SquareRoot.{squareRoot}
-use Rattle.numbers.specs.DenseSpectrum.{denseSamples, allFinite, sampleOne, sampleOneAt, upperPoint, upperLambda, upperWeight, ceiling, interpolate, isLookupWavelength, isWavelength}
-use Rattle.numbers.specs.Refusal.{refused}
-use Rattle.numbers.specs.Checked.{lookup}
-use Rattle.numbers.specs.Samples.{Samples}
+use Rattle.numbers.specs.DenseSpectrum.{isTable, entry, allFinite, sampleOne, sampleOneAt, upperPoint, upperLambda, upperWeight, ceiling, interpolate, isLookupWavelength, isWavelength}
+use Rattle.numbers.specs.Refusal.{refuse, _then_, refused, given, _▷_}
+use Rattle.numbers.specs.Checked.{checkTable, checkLookup, lookup}
+use Rattle.numbers.specs.Samples.{Entries, Samples}
 
--- entries that a lookup accepts, at a wavelength outside the range
-outside : (values : List Float) (lambda : Float) → T (eqb (length values) denseSamples && allFinite values)
-    → isLookupWavelength lambda ≡ false → lookup values lambda ≡ refused 4
-unfolding lookup
-outside values lambda h e = rw (is-true (eqb (length values) denseSamples && allFinite values) h, e)
+-- ---- a lookup of entries that it accepts, at a wavelength inside the range and outside it
+inside : (values : List Float) (lambda x : Float) → Entries values → isLookupWavelength lambda ≡ true → sampleOne values lambda ≡ x → lookup values lambda ≡ given x
+unfolding lookup checkTable checkLookup refuse _then_ _▷_
+inside values lambda x h e s = rw (is-true (isTable values && allFinite values) h, e, s)
+
+outside : (values : List Float) (lambda : Float) → Entries values → isLookupWavelength lambda ≡ false → lookup values lambda ≡ refused 4
+unfolding lookup checkTable checkLookup refuse _then_ _▷_
+outside values lambda h e = rw (is-true (isTable values && allFinite values) h, e)
 
 pub samples : Samples
 unfolding sampleOne sampleOneAt upperPoint upperLambda upperWeight ceiling interpolate isLookupWavelength isWavelength within decimal squareRoot add sub mul div lt le eq ofInt toUnsigned
@@ -29,6 +30,11 @@ samples = record {
   at-365 = λ (rest : List Float). refl;
   at-0 = λ (values : List Float). refl;
   at-830 = λ (values : List Float). refl;
+  lookup-360 = λ (rest : List Float) h. inside (f1 ∷ f2 ∷ rest) (decimal 360 1) f1 h refl refl;
+  lookup-362-and-a-half = λ (rest : List Float) h. inside (f1 ∷ f2 ∷ rest) (decimal 3625 10) (decimal 15 10) h refl refl;
+  lookup-365 = λ (rest : List Float) h. inside (f1 ∷ f2 ∷ rest) (decimal 365 1) f2 h refl refl;
+  lookup-0 = λ (values : List Float) h. inside values f0 f0 h refl refl;
+  lookup-830 = λ (values : List Float) h. inside values (decimal 830 1) (entry values 94) h refl refl;
   past-830 = λ (values : List Float) h. outside values (fin false 7300757208432641 (negsuc 42)) h refl;
   at-359 = λ (values : List Float) h. outside values (decimal 359 1) h refl;
   root-of-4 = refl;

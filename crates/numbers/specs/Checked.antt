@@ -1,9 +1,7 @@
 -- What the functions that refuse answer, by document 01's numbers ("At the counter"). Definitions only.
 -- An answer's enum is read as 01's number or the value (`floatAnswer` and its like), and that is what a promise speaks of.
-use mathlib.Core.Bool.{Bool, _&&_, cond}
+use mathlib.Core.Bool.{Bool, _&&_}
 use mathlib.Core.List.{List}
-use lib.Dec.{eqb}
-use lib.ListN.{length}
 use lib.Ieee.{Float}
 use Rattle.numbers.specs.declared.vec3.Vec3.{Vec3}
 use Rattle.numbers.specs.declared.onb.Onb.{Onb}
@@ -15,11 +13,11 @@ use Rattle.numbers.specs.declared.checked.Vec3Answer.{Vec3Answer}
 use Rattle.numbers.specs.declared.checked.Vec3Answer.the-variants as Vec3Answer
 use Rattle.numbers.specs.declared.checked.OnbAnswer.{OnbAnswer}
 use Rattle.numbers.specs.declared.checked.OnbAnswer.the-variants as OnbAnswer
-use Rattle.numbers.specs.Refusal.{Answer, refused, given, number}
+use Rattle.numbers.specs.Refusal.{number, Verdict, refuse, _then_, Answer, refused, given, _▷_}
 use Rattle.numbers.specs.Vec3.{isDirection}
 use Rattle.numbers.specs.Onb.{basis, toLocal, toWorld}
 use Rattle.numbers.specs.SphericalUtils.{sameHemisphere}
-use Rattle.numbers.specs.DenseSpectrum.{denseSamples, allFinite, isLookupWavelength, sampleOne}
+use Rattle.numbers.specs.DenseSpectrum.{isTable, allFinite, isWavelength, isLookupWavelength, sampleOne}
 
 -- ---- the enums, by 01's number and value
 unfoldable pub floatAnswer : FloatAnswer → Answer Float
@@ -38,19 +36,33 @@ unfoldable pub onbAnswer : OnbAnswer → Answer Onb
 onbAnswer (OnbAnswer.Refused why) = refused (number why)
 onbAnswer (OnbAnswer.Given uvw) = given uvw
 
--- ---- lookup: 2 for a length other than the table's or an entry that isn't finite, then 4, but 0 is accepted
-unfoldable pub lookup : List Float → Float → Answer Float
-lookup values lambda =
-    cond (eqb (length values) denseSamples && allFinite values)
-    (cond (isLookupWavelength lambda) (given (sampleOne values lambda)) (refused 4))
-    (refused 2)
+-- ---- checks of one argument
+-- a direction: 5
+unfoldable pub checkDirection : Vec3 → Verdict
+checkDirection w = refuse 5 (isDirection w)
 
--- ---- what takes one direction, or two: 5
+-- a spectrum's values: 2 for a length other than the table's, or an entry that isn't finite
+unfoldable pub checkTable : List Float → Verdict
+checkTable values = refuse 2 (isTable values && allFinite values)
+
+-- a wavelength that is not ended: 4
+unfoldable pub checkWavelength : Float → Verdict
+checkWavelength lambda = refuse 4 (isWavelength lambda)
+
+-- a wavelength as in a lookup, where 0 is accepted: 4
+unfoldable pub checkLookup : Float → Verdict
+checkLookup lambda = refuse 4 (isLookupWavelength lambda)
+
+-- ---- lookup
+unfoldable pub lookup : List Float → Float → Answer Float
+lookup values lambda = checkTable values then checkLookup lambda ▷ given (sampleOne values lambda)
+
+-- ---- what takes one direction, or two
 unfoldable pub ofDirection : {A : Type 0} → (Vec3 → A) → Vec3 → Answer A
-ofDirection f w = cond (isDirection w) (given (f w)) (refused 5)
+ofDirection f w = checkDirection w ▷ given (f w)
 
 unfoldable pub ofDirections : {A : Type 0} → (Vec3 → Vec3 → A) → Vec3 → Vec3 → Answer A
-ofDirections f v w = cond (isDirection v) (cond (isDirection w) (given (f v w)) (refused 5)) (refused 5)
+ofDirections f v w = checkDirection v then checkDirection w ▷ given (f v w)
 
 -- the direction, then the normal
 unfoldable pub changeToLocal : Vec3 → Vec3 → Answer Vec3

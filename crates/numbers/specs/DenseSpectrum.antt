@@ -3,7 +3,8 @@ use Prim.Native.Nat.{ℕ, _+_, _-_}
 use mathlib.Core.Bool.{Bool, true, false, _&&_, _||_, cond}
 use mathlib.Core.List.{List, [], _∷_}
 use lib.IntN.{pos}
-use lib.ListN.{getD}
+use lib.Dec.{eqb}
+use lib.ListN.{length, getD}
 use lib.Ieee.{Float, nan, fin, binary64, toUnsigned, ofInt, lt, eq}
 use Rattle.numbers.specs.Float.{_⊕_, _⊖_, _⊗_, _⊘_, f0, f1, f-1, within, isFinite}
 
@@ -77,6 +78,10 @@ unfoldable pub allFinite : List Float → Bool
 allFinite values = every isFinite values
 
 -- ---- limits
+-- as many entries as a table has
+unfoldable pub isTable : List Float → Bool
+isTable values = eqb (length values) denseSamples
+
 -- a wavelength that a path may start with
 unfoldable pub isWavelength : Float → Bool
 isWavelength lambda = within lambdaMin lambdaMax lambda

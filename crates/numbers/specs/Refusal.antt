@@ -1,7 +1,10 @@
--- Answers that may be a refusal, by document 01's numbers ("At the counter"). Definitions only.
+-- Refusals by document 01's numbers ("At the counter"), checks one after the other, and answers that may be a refusal. Definitions only.
 use Prim.Native.Nat.{ℕ}
+use mathlib.Core.Bool.{Bool, cond}
 use Rattle.numbers.specs.declared.refusal.Refusal.{Refusal}
 use Rattle.numbers.specs.declared.refusal.Refusal.the-variants.{Roughness, Eta, K, Wavelength, Direction, RandomNumber, CirclePair, Filter, NotFinite, Power}
+use Rattle.numbers.specs.declared.refusal.Check.{Check}
+use Rattle.numbers.specs.declared.refusal.Check.the-variants as Check
 
 -- 01's number of each ground of refusal
 unfoldable pub number : Refusal → ℕ
@@ -16,7 +19,32 @@ number Filter = 8
 number NotFinite = 9
 number Power = 10
 
--- what a call answers: 01's number and nothing besides, or a value
+-- ---- a check: passed, or failed with 01's number
+pub data Verdict : Type 0 where
+  accepted : Verdict
+  rejected : ℕ → Verdict
+
+unfoldable pub verdict : Check → Verdict
+verdict Check.Accepted = accepted
+verdict (Check.Refused why) = rejected (number why)
+
+-- n, unless the test holds
+unfoldable pub refuse : ℕ → Bool → Verdict
+refuse n holds = cond holds accepted (rejected n)
+
+-- a check, then the next: the first that fails decides
+infixl 25 _then_
+unfoldable pub _then_ : Verdict → Verdict → Verdict
+accepted then next = next
+rejected n then next = rejected n
+
+-- ---- what a call answers: 01's number and nothing besides, or a value
 pub data Answer (A : Type 0) : Type 0 where
   refused : ℕ → Answer A
   given : A → Answer A
+
+-- the checks, then the answer
+infixr 20 _▷_
+unfoldable pub _▷_ : {A : Type 0} → Verdict → Answer A → Answer A
+accepted ▷ a = a
+rejected n ▷ a = refused n

@@ -4,14 +4,17 @@ use mathlib.Core.Path.{_≡_}
 use mathlib.Core.Bool.{true, false, _&&_}
 use mathlib.Core.List.{List, _∷_}
 use lib.IntN.{pos, negsuc}
-use lib.Dec.{T, eqb}
-use lib.ListN.{length}
+use lib.Dec.{T}
 use lib.Ieee.{Float, fin}
 use Rattle.numbers.specs.Float.{f0, f1, f2, decimal}
 use Rattle.numbers.specs.SquareRoot.{sqrt}
-use Rattle.numbers.specs.DenseSpectrum.{denseSamples, sampleOne, entry, allFinite}
-use Rattle.numbers.specs.Refusal.{refused}
+use Rattle.numbers.specs.DenseSpectrum.{isTable, sampleOne, entry, allFinite}
+use Rattle.numbers.specs.Refusal.{refused, given}
 use Rattle.numbers.specs.Checked.{lookup}
+
+-- entries that a lookup accepts
+abbrev pub Entries : List Float → Type 0
+Entries values = T (isTable values && allFinite values)
 
 pub record Samples : Type 0 where
   -- entries 1.0, 2.0 first: 360 gives 1.0, 362.5 gives 1.5, 365 gives 2.0
@@ -20,11 +23,16 @@ pub record Samples : Type 0 where
   pub at-365 : (rest : List Float) → sampleOne (f1 ∷ f2 ∷ rest) (decimal 365 1) ≡ f2
   -- 0.0 gives 0.0
   pub at-0 : (values : List Float) → sampleOne values f0 ≡ f0
-  -- 830 gives the last entry; the next double is refused 4, and 359 too, of entries that a lookup accepts
+  -- 830 gives the last entry
   pub at-830 : (values : List Float) → sampleOne values (decimal 830 1) ≡ entry values 94
-  pub past-830 : (values : List Float) → T (eqb (length values) denseSamples && allFinite values)
-      → lookup values (fin false 7300757208432641 (negsuc 42)) ≡ refused 4
-  pub at-359 : (values : List Float) → T (eqb (length values) denseSamples && allFinite values) → lookup values (decimal 359 1) ≡ refused 4
+  -- the same of a lookup with its checks: the next double after 830 is refused 4, and 359 too
+  pub lookup-360 : (rest : List Float) → Entries (f1 ∷ f2 ∷ rest) → lookup (f1 ∷ f2 ∷ rest) (decimal 360 1) ≡ given f1
+  pub lookup-362-and-a-half : (rest : List Float) → Entries (f1 ∷ f2 ∷ rest) → lookup (f1 ∷ f2 ∷ rest) (decimal 3625 10) ≡ given (decimal 15 10)
+  pub lookup-365 : (rest : List Float) → Entries (f1 ∷ f2 ∷ rest) → lookup (f1 ∷ f2 ∷ rest) (decimal 365 1) ≡ given f2
+  pub lookup-0 : (values : List Float) → Entries values → lookup values f0 ≡ given f0
+  pub lookup-830 : (values : List Float) → Entries values → lookup values (decimal 830 1) ≡ given (entry values 94)
+  pub past-830 : (values : List Float) → Entries values → lookup values (fin false 7300757208432641 (negsuc 42)) ≡ refused 4
+  pub at-359 : (values : List Float) → Entries values → lookup values (decimal 359 1) ≡ refused 4
   -- √4 is 2
   pub root-of-4 : sqrt (decimal 4 1) ≡ f2
   -- √ of 2 ^ -1074 is 2 ^ -537

@@ -5,7 +5,7 @@ ghost use mathlib.Core.Path.{_≡_};
 ghost use Prim.Native.Nat.{_-_};
 ghost use lib.Ieee.{nan, eq};
 ghost use lib.ListN.{getD};
-ghost use Rattle.numbers.specs.DenseSpectrum.{ceiling, interpolate, sampleOne, every, isConstant, allWithin, allFinite, isWavelength, isLookupWavelength};
+ghost use Rattle.numbers.specs.DenseSpectrum.{ceiling, interpolate, sampleOne, every, isConstant, allWithin, allFinite, isTable, isWavelength, isLookupWavelength};
 
 // The range of wavelengths, in nanometres.
 pub const LAMBDA_MIN: f64 = 360.0;
@@ -132,6 +132,13 @@ pub fn all_finite(values: &[f64]) -> bool
         }
     }
     true
+}
+
+// Whether there are as many entries as a table has.
+pub fn is_table(values: &[f64]) -> bool
+    ensures { λ r. ⌜ r ≡ isTable (now (values .entry)) ⌝ }
+{
+    values.len() == DenseSpectrum::SAMPLES
 }
 
 // Whether a path may start with the wavelength.

@@ -1,6 +1,6 @@
-// Why a call is refused.
+// Why a call is refused, and checks as values: one after the other, the first that fails decides.
 ghost use mathlib.Core.Path.{_≡_};
-ghost use Rattle.numbers.specs.Refusal.{number};
+ghost use Rattle.numbers.specs.Refusal.{number, verdict, refuse, _then_};
 
 // What was refused. The definition `number` gives document 01's number of each.
 pub enum Refusal {
@@ -14,6 +14,12 @@ pub enum Refusal {
     Filter,
     NotFinite,
     Power,
+}
+
+// Whether a check passed, and why not.
+pub enum Check {
+    Accepted,
+    Refused(Refusal),
 }
 
 impl Refusal {
@@ -32,6 +38,28 @@ impl Refusal {
             Refusal::Filter => 8,
             Refusal::NotFinite => 9,
             Refusal::Power => 10,
+        }
+    }
+}
+
+// Refused for `why`, unless the test holds.
+pub fn refuse(why: Refusal, holds: bool) -> Check
+    ensures { λ r. ⌜ verdict r ≡ refuse (number why) «holds» ⌝ }
+{
+    if holds {
+        return Check::Accepted;
+    }
+    Check::Refused(why)
+}
+
+impl Check {
+    // This check, then the next.
+    pub fn then(self, next: Check) -> Check
+        ensures { λ r. ⌜ verdict r ≡ (verdict self then verdict next) ⌝ }
+    {
+        match self {
+            Check::Accepted => next,
+            Check::Refused(why) => Check::Refused(why),
         }
     }
 }

@@ -1,13 +1,12 @@
--- The Fresnel term for a real index from 1 / 128 to 128, at any cosine: it is a NaN, or finite and from 0 to 1 (`fr-real-any`).
+-- The Fresnel term for a real index from 1 / 2 ^ 14 to 2 ^ 14, at any cosine: it is a NaN, or finite and from 0 to 1 (`fr-real-any`).
 -- A density takes it at a half vector whose length may be 0 or overflow, so nothing bounds the cosine there. A cosine that is a NaN
 -- gives one. Where an infinity comes up, as the cosine, the root inside, or a product with the index, it meets itself in a quotient
 -- (a - b) / (a + b), which is then a NaN; and where none does the term is from 0 to 1 as in Fresnel.
 use mathlib.Core.Path.{_≡_, refl, sym, ap, _∙_, subst}
 use mathlib.Core.Logic.{_⊎_, inl, inr}
 use mathlib.Core.Bool.{Bool, true, false, not, cond}
-use Prim.Native.Nat.{ℕ, zero, suc, _*_, _<_}
+use Prim.Native.Nat.{ℕ, zero, suc, _<_}
 use native.Mathlib.Nat.{lt-of-lt-of-le}
-use native.Mathlib.Omega.{arith}
 use lib.Dec.{T, T-not}
 use lib.Ieee.{Float, nan, inf, fin, Format, binary64, isNan, neg, add, sub, mul, div, le, lt, eq, fits}
 use lib.Ieee.Fits.{mul-fits, div-fits, sub-fits}
@@ -19,8 +18,8 @@ use Rattle.numbers.proofs.UnitVector.{sq, sq-ext}
 use Rattle.numbers.specs.Float.{_⊕_, _⊖_, _⊗_, _⊘_, f0, f1, f2, max, abs}
 use Rattle.numbers.specs.SquareRoot.{sqrt, squareRoot}
 use Rattle.optics.specs.Fresnel.{indexFrom, sin2I, isTotal, cosI, contrast, meanSquare, unpolarized, frFacing, frReal, fresnel}
-use Rattle.optics.proofs.Sizes.{Number, round-number, div-number, f1-upto}
-use Rattle.optics.proofs.Fresnel.{Share, f1-share, index-from, index-square, gap, Inner, inner-of, productSize, product-ext, indexed-below, unpolarized-share, fresnel-real}
+use Rattle.optics.proofs.Sizes.{Number, round-number, div-number, factor-pos, f1-upto}
+use Rattle.optics.proofs.Fresnel.{Share, f1-share, index-from, squareMost, index-square, gap, Inner, inner-of, productSize, product-ext, indexed-below, unpolarized-share, fresnel-real}
 
 abbrev B : Format
 B = binary64
@@ -125,10 +124,8 @@ sin2-number : (c e : Float) → Size c → Index e → Number (sin2I c e)
 unfolding sin2I
 sin2-number c e h i =
     let q = index-square e i in
-    over (f1 ⊖ c ⊗ c) (e ⊗ e) (sub-fits B f1 (c ⊗ c)) (numerator c h) (q .0) (some (mag (e ⊗ e)) (lt-of-lt-of-le U-pos (q .1)))
-  where
-    some : (b : ℕ) → 0 < 16384 * b → 0 < b
-    some b h = omega arith
+    over (f1 ⊖ c ⊗ c) (e ⊗ e) (sub-fits B f1 (c ⊗ c)) (numerator c h) (q .0)
+    (factor-pos squareMost (mag (e ⊗ e)) (lt-of-lt-of-le U-pos (q .1)))
 
 sin2-fits : (c e : Float) → T (fits B (sin2I c e))
 unfolding sin2I

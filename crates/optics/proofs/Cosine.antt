@@ -1,13 +1,11 @@
--- The cosine between two directions is the same from either side, so that a density computes it once.
+-- The cosine between two directions is the same from either side.
 use Prim.Native.Nat.{ℕ, _*_}
 use native.Mathlib.Nat.{mul-comm}
 use mathlib.Core.Bool.{Bool, true, false}
 use mathlib.Core.Path.{_≡_, refl}
 use lib.Ieee.{Float, nan, inf, fin, Format, binary64, unlike, round, up, down, mul}
 use Rattle.numbers.specs.Vec3.{dot}
-use Rattle.numbers.specs.declared.vec2.Vec2.{Vec2}
 use Rattle.numbers.specs.declared.vec3.Vec3.{Vec3}
-use Rattle.optics.specs.Facets.{chiPass, g1With, g1At, sampleNormalPdfWith, sampleNormalPdfAt}
 
 unlike-comm : (s t : Bool) → unlike s t ≡ unlike t s
 unlike-comm true true = refl
@@ -37,8 +35,3 @@ dot-comm v w =
       product-comm binary64 (v .y) (w .y),
       product-comm binary64 (v .z) (w .z),
     )
-
--- the density of a sampled normal from the one cosine wo · wh
-pub one-cosine : (a : Vec2) (lambdaWo : Float) (wh wo : Vec3) → sampleNormalPdfAt a lambdaWo (dot wo wh) wh wo ≡ sampleNormalPdfWith a lambdaWo wh wo
-unfolding sampleNormalPdfWith sampleNormalPdfAt g1With g1At chiPass
-one-cosine a lambdaWo wh wo = rw (dot-comm wh wo)

@@ -15,11 +15,11 @@ use Rattle.numbers.specs.SphericalUtils.{cosTheta, sameHemisphere}
 use Rattle.numbers.specs.DenseSpectrum.{isWavelength}
 use Rattle.numbers.specs.declared.vec2.Vec2.{Vec2}
 use Rattle.numbers.specs.declared.vec3.Vec3.{Vec3}
-use Rattle.optics.specs.Facets.{isDelta, lambda, g1With, d, sampleNormalPdfWith}
+use Rattle.optics.specs.Facets.{isDelta, g1, d, sampleNormalPdf}
 use Rattle.optics.specs.Fresnel.{fAt}
 use Rattle.optics.specs.Surface.{Microsurface, etaHolds, kHolds, etaAt, kAt}
 use Rattle.optics.specs.Bxdf.{isSmooth, rest}
-use Rattle.optics.specs.Density.{f4, atZ, mirroredPdf, conductorHalf, conductorPdfWith, conductorPdf, etaRatio, dielectricHalf, isDiscarded, reflectedPdf, passedPdf, dielectricAt, dielectricPdfWith, dielectricPdf, pdfOf, pdf}
+use Rattle.optics.specs.Density.{f4, atZ, mirroredPdf, bentPdf, conductorHalf, conductorPdfFrom, conductorPdf, etaRatio, dielectricHalf, isDiscarded, reflectedPdf, passedPdf, dielectricPdfFrom, dielectricPdf, pdfOf, pdf}
 use Rattle.optics.specs.declared.microfacet.Kind.{Kind}
 use Rattle.optics.specs.declared.microfacet.Kind.the-variants.{Metal, Glass}
 use Rattle.optics.proofs.AnyCosine.{NanOrShare, fresnel-any}
@@ -62,79 +62,66 @@ at-z-not-below wh x h = go (lt (f1 ⊖ cosTheta wh) epsilon)
     go true = h
     go false = f0-not-below
 
--- l stands for Λ(wo): nothing is asked of it
-sampled-not-below : (a : Vec2) (l : Float) (wh wo : Vec3) → NotNegative (sampleNormalPdfWith a l wh wo)
-unfolding sampleNormalPdfWith
-sampled-not-below a l wh wo = max-not-below (g1With l wo wh ⊗ d a wh ⊗ abs (dot wh wo) ⊘ abs (cosTheta wo))
+-- nothing is asked of Λ(wo)
+sampled-not-below : (a : Vec2) (wh wo : Vec3) → NotNegative (sampleNormalPdf a wh wo)
+unfolding sampleNormalPdf
+sampled-not-below a wh wo = max-not-below (g1 a wo wh ⊗ d a wh ⊗ abs (dot wh wo) ⊘ abs (cosTheta wo))
 
-mirrored-not-below : (a : Vec2) (l : Float) (wo wh : Vec3) → NotNegative (mirroredPdf a l wo wh)
-unfolding mirroredPdf
-mirrored-not-below a l wo wh =
-    let c = abs (dot wo wh) in
-    div-not-below (sampleNormalPdfWith a l wh wo) (f4 ⊗ c) (sampled-not-below a l wh wo) (mul-plus f4 c refl (abs-plus (dot wo wh)))
+-- n is the density of the normal
+module _ (n : Float) (h : NotNegative n) (wo wh : Vec3) where
+  mirrored-not-below : NotNegative (mirroredPdf n wo wh)
+  unfolding mirroredPdf
+  mirrored-not-below =
+      let c = abs (dot wo wh) in
+      div-not-below n (f4 ⊗ c) h (mul-plus f4 c refl (abs-plus (dot wo wh)))
+
+  bent-not-below : (ratio : Float) (wi : Vec3) → NotNegative (bentPdf n ratio wo wi wh)
+  unfolding bentPdf powi2
+  bent-not-below ratio wi =
+      let c = abs (dot wi wh) in
+      let v = dot wi wh ⊕ dot wo wh ⊘ ratio in
+      div-not-below (n ⊗ c) (v ⊗ v) (mul-not-below n c h (plus-not-below c (abs-plus (dot wi wh)))) (square-plus v)
 
 pub conductor-not-below : (a : Vec2) (wo wi : Vec3) → NotNegative (conductorPdf a wo wi)
-unfolding conductorPdf conductorPdfWith
+unfolding conductorPdf conductorPdfFrom
 conductor-not-below a wo wi = go (sameHemisphere wi wo) (isDelta a)
   where
-    l : Float
-    l = lambda a wo
-
     wh : Vec3
     wh = conductorHalf wo wi
 
-    go : (same delta : Bool) → NotNegative (cond same (cond delta (atZ wh f1) (mirroredPdf a l wo wh)) f0)
+    n : Float
+    n = sampleNormalPdf a wh wo
+
+    go : (same delta : Bool) → NotNegative (cond same (cond delta (atZ wh f1) (mirroredPdf n wo wh)) f0)
     go true true = at-z-not-below wh f1 (inl refl)
-    go true false = mirrored-not-below a l wo wh
+    go true false = mirrored-not-below n (sampled-not-below a wh wo) wo wh
     go false delta = f0-not-below
 
-reflected-not-below : (a : Vec2) (l eta F : Float) (wo wh : Vec3) → SharesSigns F → NotNegative (reflectedPdf a l eta F wo wh)
+reflected-not-below : (n : Float) (smooth : Bool) (F : Float) (wo wh : Vec3) → NotNegative n → SharesSigns F → NotNegative (reflectedPdf n smooth F wo wh)
 unfolding reflectedPdf
-reflected-not-below a l eta F wo wh s = go (isSmooth a eta)
-  where
-    whole : Float
-    whole = F ⊕ rest F
+reflected-not-below n true F wo wh h s = let whole = F ⊕ rest F in at-z-not-below wh (F ⊘ whole) (div-not-below F whole (s .first) (s .whole))
+reflected-not-below n false F wo wh h s =
+    let m = mirroredPdf n wo wh in
+    div-not-below (m ⊗ F) (F ⊕ rest F) (mul-not-below m F (mirrored-not-below n h wo wh) (s .first)) (s .whole)
 
-    go : (b : Bool) → NotNegative (cond b (atZ wh (F ⊘ whole)) (mirroredPdf a l wo wh ⊗ F ⊘ whole))
-    go true = at-z-not-below wh (F ⊘ whole) (div-not-below F whole (s .first) (s .whole))
-    go false =
-        let m = mirroredPdf a l wo wh in
-        div-not-below (m ⊗ F) whole (mul-not-below m F (mirrored-not-below a l wo wh) (s .first)) (s .whole)
-
-passed-not-below : (a : Vec2) (l eta ratio F : Float) (wo wi wh : Vec3) → SharesSigns F → NotNegative (passedPdf a l eta ratio F wo wi wh)
-unfolding passedPdf powi2
-passed-not-below a l eta ratio F wo wi wh s = go (isSmooth a eta)
-  where
-    whole : Float
-    whole = F ⊕ rest F
-
-    v : Float
-    v = dot wi wh ⊕ dot wo wh ⊘ ratio
-
-    facet : Float
-    facet = sampleNormalPdfWith a l wh wo ⊗ abs (dot wi wh)
-
-    facet-not-below : NotNegative facet
-    facet-not-below =
-        let c = abs (dot wi wh) in
-        mul-not-below (sampleNormalPdfWith a l wh wo) c (sampled-not-below a l wh wo) (plus-not-below c (abs-plus (dot wi wh)))
-
-    bent-not-below : NotNegative (facet ⊘ (v ⊗ v))
-    bent-not-below = div-not-below facet (v ⊗ v) facet-not-below (square-plus v)
-
-    go : (b : Bool) → NotNegative (cond b (atZ wh (rest F ⊘ whole)) (facet ⊘ (v ⊗ v) ⊗ rest F ⊘ whole))
-    go true = at-z-not-below wh (rest F ⊘ whole) (div-not-below (rest F) whole (s .second) (s .whole))
-    go false =
-        div-not-below (facet ⊘ (v ⊗ v) ⊗ rest F) whole (mul-not-below (facet ⊘ (v ⊗ v)) (rest F) bent-not-below (s .second)) (s .whole)
+passed-not-below : (n : Float) (smooth : Bool) (ratio F : Float) (wo wi wh : Vec3) → NotNegative n → SharesSigns F
+    → NotNegative (passedPdf n smooth ratio F wo wi wh)
+unfolding passedPdf
+passed-not-below n true ratio F wo wi wh h s =
+    let whole = F ⊕ rest F in
+    at-z-not-below wh (rest F ⊘ whole) (div-not-below (rest F) whole (s .second) (s .whole))
+passed-not-below n false ratio F wo wi wh h s =
+    let m = bentPdf n ratio wo wi wh in
+    div-not-below (m ⊗ rest F) (F ⊕ rest F) (mul-not-below m (rest F) (bent-not-below n h wo wh ratio wi) (s .second)) (s .whole)
 
 nan-or-share : (wo wh : Vec3) (eta k : Float) → Index eta → T (eq k f0) → NanOrShare (fAt wo wh eta k)
 unfolding fAt
 nan-or-share wo wh eta k i z = fresnel-any (dot wo wh) eta k (dot-fits wo wh) i z
 
-at-not-below : (a : Vec2) (l eta k ratio : Float) (reflection : Bool) (wo wi wh : Vec3) → Index eta → T (eq k f0)
-    → NotNegative (dielectricAt a l eta k ratio reflection wo wi wh)
-unfolding dielectricAt
-at-not-below a l eta k ratio reflection wo wi wh i z = go (isDiscarded (dot wo wh) (dot wi wh) wo wi) reflection
+from-not-below : (n : Float) (smooth : Bool) (eta k ratio : Float) (reflection : Bool) (wo wi wh : Vec3) → NotNegative n → Index eta → T (eq k f0)
+    → NotNegative (dielectricPdfFrom n smooth eta k ratio reflection wo wi wh)
+unfolding dielectricPdfFrom
+from-not-below n smooth eta k ratio reflection wo wi wh h i z = go (isDiscarded (dot wo wh) (dot wi wh) wo wi) reflection
   where
     F : Float
     F = fAt wo wh eta k
@@ -143,17 +130,18 @@ at-not-below a l eta k ratio reflection wo wi wh i z = go (isDiscarded (dot wo w
     s = signs-of F (share-fits wo wh eta k) (nan-or-share wo wh eta k i z)
 
     go : (discarded reflection : Bool)
-        → NotNegative (cond discarded f0 (cond reflection (reflectedPdf a l eta F wo wh) (passedPdf a l eta ratio F wo wi wh)))
+        → NotNegative (cond discarded f0 (cond reflection (reflectedPdf n smooth F wo wh) (passedPdf n smooth ratio F wo wi wh)))
     go true reflection = f0-not-below
-    go false true = reflected-not-below a l eta F wo wh s
-    go false false = passed-not-below a l eta ratio F wo wi wh s
+    go false true = reflected-not-below n smooth F wo wh h s
+    go false false = passed-not-below n smooth ratio F wo wi wh h s
 
 pub dielectric-not-below : (a : Vec2) (eta k : Float) (reflection : Bool) (wo wi : Vec3) → Index eta → T (eq k f0)
     → NotNegative (dielectricPdf a eta k reflection wo wi)
-unfolding dielectricPdf dielectricPdfWith
+unfolding dielectricPdf
 dielectric-not-below a eta k reflection wo wi i z =
     let ratio = etaRatio reflection wo eta in
-    at-not-below a (lambda a wo) eta k ratio reflection wo wi (dielectricHalf eta ratio wo wi) i z
+    let wh = dielectricHalf eta ratio wo wi in
+    from-not-below (sampleNormalPdf a wh wo) (isSmooth a eta) eta k ratio reflection wo wi wh (sampled-not-below a wh wo) i z
 
 -- ---- the laws
 pub density-of-not-below : (kind : Kind) (a : Vec2) (eta k : Float) (reflection : Bool) (wo wi : Vec3)

@@ -1,14 +1,14 @@
 -- The Fresnel term for a real index is from 0 to 1.
--- Proved (`fr-real-share`): for a cosine of at most 64 in size and an index from 1 / 128 to 128, on either side of the surface,
+-- Proved (`fr-real-share`): for a cosine of at most 64 in size and an index from 1 / 2 ^ 14 to 2 ^ 14, on either side of the surface,
 -- `frReal` is finite and from 0 to 1; so is `fresnel` where k is zero (`fresnel-share`). Where the sine's square is not 1 or more the
--- root inside is at least 128 units (`inner`), so both quotients have a divisor above 0, and the square of each is from 0 to 1 by
+-- root inside is at least `indexMost` units (`inner`), so both quotients have a divisor above 0, and the square of each is from 0 to 1 by
 -- `contrast` of Shares.
 use mathlib.Core.Path.{_≡_, refl, sym, ap, _∙_, subst}
 use mathlib.Core.Logic.{inl, inr}
 use mathlib.Core.List.{[], _∷_}
 use mathlib.Core.Bool.{Bool·beq, Bool, true, false, not, _||_, true≢false, cond}
 use Prim.Native.Nat.{ℕ, zero, suc, _+_, _-_, _*_, _^_, _≤_, _<_, zero-le}
-use native.Mathlib.Nat.{le-trans, le-of-eq, lt-of-le-of-lt, lt-of-lt-of-le, lt-irrefl, not-le-of-lt, mul-le-mul-right, mul-le-mul-left, mul-le-mul, le-of-mul-le-mul-right, mul-pos, mul-comm, zero-lt-suc, le-of-lt, one-mul}
+use native.Mathlib.Nat.{le-trans, le-of-eq, lt-of-le-of-lt, lt-of-lt-of-le, lt-irrefl, not-le-of-lt, mul-le-mul-right, mul-le-mul-left, mul-le-mul, le-of-mul-le-mul-right, mul-pos, mul-comm, mul-assoc, zero-lt-suc, le-of-lt, one-mul}
 use native.Mathlib.Omega.{arith}
 use lib.Dec.{T, eqb, eqb→eq, lt→ltb, lit≤, lit<, T-not}
 use lib.Ieee.{Float, nan, inf, fin, Format, binary64, up, down, neg, le, lt, eq, fits}
@@ -22,12 +22,12 @@ use Rattle.numbers.proofs.Error.{Fin, P, N, M, parts, parts-le}
 use Rattle.numbers.proofs.WholeRoot.{RootErr, rootOf-err}
 use Rattle.numbers.proofs.Expression.{fv, _-ᶠ_, _*ᶠ_, mg, tame, closed}
 use Rattle.numbers.proofs.Direction.{two-U, two-O}
-use Rattle.numbers.proofs.Interpolation.{fine-N, pos-of, Index}
+use Rattle.numbers.proofs.Interpolation.{fine-N, pos-of, Around, Index, indexBits, indexMost}
 use Rattle.numbers.proofs.UnitVector.{root-val, root-fits, zero-units, fine-pos}
 use Rattle.numbers.specs.Float.{_⊕_, _⊖_, _⊗_, _⊘_, f0, f1, f2, max, abs}
 use Rattle.numbers.specs.SquareRoot.{sqrt, rootOfUnits}
 use Rattle.optics.specs.Fresnel.{indexFrom, sin2I, isTotal, cosI, contrast, meanSquare, unpolarized, frFacing, frReal, frComplex, fresnel}
-use Rattle.optics.proofs.Sizes.{Upto, widen, expression, f1-upto, f1-parts, f2-units, held-O, ext-N, root-max, divide}
+use Rattle.optics.proofs.Sizes.{Upto, widen, expression, f1-upto, f1-parts, f2-units, held-O, ext-N, root-max, held-power, factor-pos, divide}
 
 abbrev B : Format
 B = binary64
@@ -42,23 +42,19 @@ le-nil x f n = ext-le f0 x 0 (mag x) nil-ext (ext-N x f n) zero-le
 held1 : rnd 53 1 1 ≡ 1
 held1 = rnd-fix 53 1 0 (lit< tt)
 
--- ---- the index: from 1 / 128 to 128
+-- ---- the index: from 1 / `indexMost` to `indexMost`
 unfoldable low-U : ℕ
-low-U = 2 ^ 1067
+low-U = 2 ^ (1074 - indexBits)
 
-low-is : (128 * low-U ≡ U) × (rnd 53 low-U 1 ≡ low-U)
+low-is : (indexMost * low-U ≡ U) × (rnd 53 low-U 1 ≡ low-U)
 unfolding U low-U
-low-is = (refl, rnd-fix 53 1 1067 (lit< tt))
+low-is = (refl, rnd-fix 53 1 (1074 - indexBits) (lit< tt))
 
-high-is : (rnd 53 (128 * U) 1 ≡ 128 * U) × (128 * U < O)
-unfolding U O
-high-is = (rnd-fix 53 1 1081 (lit< tt), lit< tt)
+around-pos : (k : ℕ) (e : Float) → Around k e → 0 < mag e
+around-pos k e h = factor-pos k (mag e) (lt-of-lt-of-le U-pos (h .low))
 
 pub index-pos : (e : Float) → Index e → 0 < mag e
-index-pos e h = go (mag e) (lt-of-lt-of-le U-pos (h .low))
-  where
-    go : (e : ℕ) → 0 < 128 * e → 0 < e
-    go e h = omega arith
+index-pos e h = around-pos indexMost e h
 
 -- what compares equal to 0 has no units
 zero-sized : (e : Float) → Fin e → T (eq e f0) → mag e ≡ 0
@@ -91,28 +87,41 @@ index-not-zero e h = go (eq e f0) refl
     go false q = q
     go true q = absurd (no-zero q)
 
-pub index-inverse : (e : Float) → Index e → Index (f1 ⊘ e)
-index-inverse e h =
-    let a = mag e in
-    let r = rnd 53 (U * U) a in
-    let p = index-pos e h in
-    let x : Ext (f1 ⊘ e) r = div-ext f1 e U a (false, unit-is, refl) (fine-N e (h .fin) (h .above)) p in
-    let hi : r ≤ 128 * U = rnd-le (128 * U) (U * U) a p (high-is .0) (le-trans (mul-le-mul-right U (h .low)) (le-of-eq (re U a))) in
-    let low = le-trans (mul-le-mul-left low-U (h .high)) (le-of-eq (re2 low-U U (low-is .0))) in
-    let lo : low-U ≤ r = rnd-ge low-U (U * U) a p (low-is .1) low in
-    let q = pos-of (f1 ⊘ e) r (div-fits B f1 e) x (lt-of-le-of-lt hi (high-is .1)) in
+-- a quotient, rounded once, of values whose ranges multiply to an index's
+pub quotient-index : (k l : ℕ) (x y : Float) → 0 < k → k * l ≡ indexMost → Around k x → Around l y → Index (x ⊘ y)
+quotient-index k l x y k0 kl hx hy =
+    let a = mag x in
+    let b = mag y in
+    let r = rnd 53 (a * U) b in
+    let p = around-pos l y hy in
+    let o = held-power indexBits (lit≤ tt) in
+    let e : Ext (x ⊘ y) r = div-ext x y a b (fine-N x (hx .fin) (hx .above)) (fine-N y (hy .fin) (hy .above)) p in
+    let high = le-trans (mul-le-mul (hx .high) (hy .low)) (le-of-eq (re k l U b ∙ ap (λ (z : ℕ). z * U * b) kl)) in
+    let hi : r ≤ indexMost * U = rnd-le (indexMost * U) (a * U) b p (o .0) high in
+    let unit : low-U * l * k ≡ U = re2 low-U l k ∙ ap (λ (z : ℕ). z * low-U) kl ∙ low-is .0 in
+    let share : low-U * l ≤ a = le-of-mul-le-mul-right {k = k} (le-trans (le-of-eq unit) (le-trans (hx .low) (le-of-eq (mul-comm k a)))) k0 in
+    let low = le-trans (mul-le-mul-left low-U (hy .high)) (le-trans (le-of-eq (sym (mul-assoc low-U l U))) (mul-le-mul-right U share)) in
+    let lo : low-U ≤ r = rnd-ge low-U (a * U) b p (low-is .1) low in
+    let q = pos-of (x ⊘ y) r (div-fits B x y) e (lt-of-le-of-lt hi (o .1)) in
     record {
       fin = q .fin;
       above = q .zero-N;
-      low = subst (λ (z : ℕ). U ≤ 128 * z) (sym (q .is)) (le-trans (le-of-eq (sym (low-is .0))) (mul-le-mul-left 128 lo));
+      low = subst (λ (z : ℕ). U ≤ indexMost * z) (sym (q .is)) (le-trans (le-of-eq (sym (low-is .0))) (mul-le-mul-left indexMost lo));
       high = le-trans (le-of-eq (q .is)) hi;
     }
   where
-    re : (u a : ℕ) → 128 * a * u ≡ 128 * u * a
-    re u a = omega arith
+    re : (k l u b : ℕ) → k * u * (l * b) ≡ k * l * u * b
+    re k l u b = omega arith
 
-    re2 : (l u : ℕ) → 128 * l ≡ u → l * (128 * u) ≡ u * u
-    re2 l u h = rw (← h) (omega arith)
+    re2 : (w l k : ℕ) → w * l * k ≡ k * l * w
+    re2 w l k = omega arith
+
+one-around : Around 1 f1
+unfolding lib.Ieee.fits N U
+one-around = record { fin = (tt, tt); above = refl; low = lit≤ tt; high = lit≤ tt }
+
+pub index-inverse : (e : Float) → Index e → Index (f1 ⊘ e)
+index-inverse e h = quotient-index 1 indexMost f1 e (lit< tt) refl one-around h
 
 pub index-from : (c e : Float) → Index e → Index (indexFrom c e)
 unfolding indexFrom
@@ -123,47 +132,57 @@ index-from c e i = go (lt c f0)
     go false = i
 
 -- ---- the square of the index
+abbrev squareBits : ℕ
+squareBits = 2 * indexBits
+
+abbrev pub squareMost : ℕ
+squareMost = 2 ^ squareBits
+
 unfoldable low2 : ℕ
-low2 = 2 ^ 1060
+low2 = 2 ^ (1074 - squareBits)
 
-low2-is : (16384 * low2 ≡ U) × (rnd 53 low2 1 ≡ low2)
+low2-is : (squareMost * low2 ≡ U) × (rnd 53 low2 1 ≡ low2)
 unfolding U low2
-low2-is = (refl, rnd-fix 53 1 1060 (lit< tt))
+low2-is = (refl, rnd-fix 53 1 (1074 - squareBits) (lit< tt))
 
-h2-is : (rnd 53 (16384 * U) 1 ≡ 16384 * U) × (16384 * U < O)
-unfolding U O
-h2-is = (rnd-fix 53 1 1088 (lit< tt), lit< tt)
-
-pub index-square : (e : Float) → Index e → Fin (e ⊗ e) × (U ≤ 16384 * mag (e ⊗ e))
+pub index-square : (e : Float) → Index e → Fin (e ⊗ e) × (U ≤ squareMost * mag (e ⊗ e))
 index-square e h =
     let a = mag e in
     let f = fine-N e (h .fin) (h .above) in
     let r = rnd 53 (a * a * U) (U * U) in
     let p = mul-pos U-pos U-pos in
     let high = le-trans (mul-le-mul-right U (mul-le-mul (h .high) (h .high))) (le-of-eq (re U)) in
-    let hi : r ≤ 16384 * U = rnd-le (16384 * U) (a * a * U) (U * U) p (h2-is .0) high in
+    let o = held-power squareBits (lit≤ tt) in
+    let hi : r ≤ squareMost * U = rnd-le (squareMost * U) (a * a * U) (U * U) p (o .0) high in
     let square = le-trans (mul-le-mul-right U (mul-le-mul (h .low) (h .low))) (le-of-eq (re3 a U)) in
     let low = le-trans (le-of-eq (re2 low2 U (low2-is .0))) square in
-    let lo : low2 ≤ r = rnd-ge low2 (a * a * U) (U * U) p (low2-is .1) (le-of-mul-le-mul-right {k = 16384} low (lit< tt)) in
-    let q = pos-of (e ⊗ e) r (mul-fits B e e) (mul-ext e e a a f f) (lt-of-le-of-lt hi (h2-is .1)) in
-    (q .fin, subst (λ (z : ℕ). U ≤ 16384 * z) (sym (q .is)) (le-trans (le-of-eq (sym (low2-is .0))) (mul-le-mul-left 16384 lo)))
+    let lo : low2 ≤ r = rnd-ge low2 (a * a * U) (U * U) p (low2-is .1) (le-of-mul-le-mul-right {k = squareMost} low (lit< tt)) in
+    let q = pos-of (e ⊗ e) r (mul-fits B e e) (mul-ext e e a a f f) (lt-of-le-of-lt hi (o .1)) in
+    (q .fin, subst (λ (z : ℕ). U ≤ squareMost * z) (sym (q .is)) (le-trans (le-of-eq (sym (low2-is .0))) (mul-le-mul-left squareMost lo)))
   where
-    re : (u : ℕ) → 128 * u * (128 * u) * u ≡ 16384 * u * (u * u)
+    re : (u : ℕ) → indexMost * u * (indexMost * u) * u ≡ squareMost * u * (u * u)
     re u = omega arith
 
-    re2 : (l u : ℕ) → 16384 * l ≡ u → l * (u * u) * 16384 ≡ u * u * u
+    re2 : (l u : ℕ) → squareMost * l ≡ u → l * (u * u) * squareMost ≡ u * u * u
     re2 l u h = rw (← h) (omega arith)
 
-    re3 : (a u : ℕ) → 128 * a * (128 * a) * u ≡ a * a * u * 16384
+    re3 : (a u : ℕ) → indexMost * a * (indexMost * a) * u ≡ a * a * u * squareMost
     re3 a u = omega arith
 
 -- ---- the sine's square inside
-pub sin2-upto : (c e : Float) → Upto 64 c → Index e → Upto 134217728 (sin2I c e)
+-- 8192 by the least square
+abbrev sin2Bits : ℕ
+sin2Bits = 13 + squareBits
+
+abbrev pub sin2Most : ℕ
+sin2Most = 2 ^ sin2Bits
+
+pub sin2-upto : (c e : Float) → Upto 64 c → Index e → Upto sin2Most (sin2I c e)
 unfolding closed tame mg sin2I
 sin2-upto c e h i =
     let w = expression 8192 (f1 ∷ c ∷ []) (1 ∷ 64 ∷ []) (fv 0 -ᶠ fv 1 *ᶠ fv 1) (f1-upto, (h, tt)) tt tt (lit≤ tt) in
     let q = index-square e i in
-    divide (f1 ⊖ c ⊗ c) (e ⊗ e) w (q .0) (q .1)
+    divide 8192 squareMost (f1 ⊖ c ⊗ c) (e ⊗ e) (held-power sin2Bits (lit≤ tt)) w (q .0) (q .1)
 
 -- ---- where it is not 1 or more, the cosine inside is above 0
 nle-parts : (x y : Float) → Fin x → Fin y → T (not (le x y)) → P y + N x < P x + N y
@@ -207,17 +226,20 @@ gap s f t = go (sign s) refl (nle-parts f1 s (f1-upto .fin) f t)
         more : (u a : ℕ) → 0 < u → 1 ≤ u + a
         more u a h = omega arith
 
--- the root of it: at least 128 units, so that a product with the index is above 0 too
+-- the root of it: at least `indexMost` units, so that a product with the index is above 0 too
 pub record Inner (i : Float) : Type 0 where
   pub fin : Fin i
   pub above : N i ≡ 0
-  pub some : 128 ≤ mag i
+  pub some : indexMost ≤ mag i
 
-big-U : 66049 ≤ U
+abbrev rootMost : ℕ
+rootMost = 2 * indexMost
+
+big-U : (rootMost + 1) * (rootMost + 1) ≤ U
 unfolding U
 big-U = lit≤ tt
 
-root-some : (n ρ : ℕ) → 0 < n → RootErr n ρ → 128 ≤ ρ
+root-some : (n ρ : ℕ) → 0 < n → RootErr n ρ → indexMost ≤ ρ
 root-some n ρ p e =
     let large = big-R (e .R) (le-trans (le-trans big-U (le-mul n U p)) (le-of-lt (e .high))) in
     low (e .R) (e .m) ρ large (e .cut .0) (e .near .1)
@@ -225,22 +247,22 @@ root-some n ρ p e =
     le-mul : (n u : ℕ) → 0 < n → u ≤ n * u
     le-mul n u p = let h = mul-le-mul-right u p in omega arith
 
-    big-R : (R : ℕ) → 66049 ≤ (R + 1) * (R + 1) → 256 ≤ R
-    big-R R h = elim (below-or-from R 256) [
-      | inl l ↦ absurd (not-le-of-lt (lt-of-le-of-lt (mul-le-mul (suc-le R l) (suc-le R l)) (lit< {m = 256 * 256} {n = 66049} tt)) h)
+    big-R : (R : ℕ) → (rootMost + 1) * (rootMost + 1) ≤ (R + 1) * (R + 1) → rootMost ≤ R
+    big-R R h = elim (below-or-from R rootMost) [
+      | inl l ↦ absurd (not-le-of-lt (lt-of-le-of-lt (mul-le-mul (suc-le R l) (suc-le R l)) (lit< {m = rootMost * rootMost} {n = (rootMost + 1) * (rootMost + 1)} tt)) h)
       | inr k ↦ k
     ]
       where
-        suc-le : (R : ℕ) → R < 256 → R + 1 ≤ 256
+        suc-le : (R : ℕ) → R < rootMost → R + 1 ≤ rootMost
         suc-le R l = omega arith
 
-    low : (R m ρ : ℕ) → 256 ≤ R → 2 * R ≤ m → M * m ≤ M * (2 * ρ) + m → 128 ≤ ρ
+    low : (R m ρ : ℕ) → rootMost ≤ R → 2 * R ≤ m → M * m ≤ M * (2 * ρ) + m → indexMost ≤ ρ
     low R m ρ a b c = last m ρ (le-trans (mul-le-mul-left 2 a) b) (half m ρ c)
       where
         half : (m ρ : ℕ) → M * m ≤ M * (2 * ρ) + m → m ≤ 4 * ρ
         half m ρ c = omega arith
 
-        last : (m ρ : ℕ) → 512 ≤ m → m ≤ 4 * ρ → 128 ≤ ρ
+        last : (m ρ : ℕ) → 2 * rootMost ≤ m → m ≤ 4 * ρ → indexMost ≤ ρ
         last m ρ a b = omega arith
 
 -- where 1 - s is n units
@@ -255,18 +277,28 @@ inner-of s n e p l =
     let is : Is i false (r .0) = subst (λ (z : Float). Is z false (r .0)) (sym is-root) (r .1) in
     let f : Fin i = (is-finite i false (r .0) is, root-fits (max d f0) n is-root) in
     let same = is-same i false (sign i) (r .0) (mag i) is (is-of i (f .0) (f .1) .0) .1 in
-    record { fin = f; above = parts i false (r .0) f is .1; some = subst (λ (z : ℕ). 128 ≤ z) same (root-some n (r .0) p (r .2)) }
+    record { fin = f; above = parts i false (r .0) f is .1; some = subst (λ (z : ℕ). indexMost ≤ z) same (root-some n (r .0) p (r .2)) }
 
 -- where s is not large
-one-minus : (s : Float) → Upto 134217728 s → Upto 268435456 (f1 ⊖ s)
+one-minus : (s : Float) → Upto sin2Most s → Upto (2 * sin2Most) (f1 ⊖ s)
 unfolding closed tame mg
-one-minus s h = expression 268435456 (f1 ∷ s ∷ []) (1 ∷ 134217728 ∷ []) (fv 0 -ᶠ fv 1) (f1-upto, (h, tt)) tt tt (lit≤ tt)
+one-minus s h = expression (2 * sin2Most) (f1 ∷ s ∷ []) (1 ∷ sin2Most ∷ []) (fv 0 -ᶠ fv 1) (f1-upto, (h, tt)) tt tt (lit≤ tt)
 
-pub inner-upto : (s : Float) → Upto 134217728 s → Upto 536870915 (cosI s)
+abbrev pub innerMost : ℕ
+innerMost = 4 * sin2Most + 3
+
+pub inner-upto : (s : Float) → Upto sin2Most s → Upto innerMost (cosI s)
 unfolding cosI
-inner-upto s h = root-max 268435456 (f1 ⊖ s) (one-minus s h)
+inner-upto s h = root-max (2 * sin2Most) (f1 ⊖ s) (one-minus s h)
 
-inner : (s : Float) → Upto 134217728 s → T (not (isTotal s)) → Inner (cosI s)
+-- what the parts of a sampled direction are at most, on metal and on glass
+abbrev pub reachBits : ℕ
+reachBits = sin2Bits + 4
+
+abbrev pub reach : ℕ
+reach = 2 ^ reachBits
+
+inner : (s : Float) → Upto sin2Most s → T (not (isTotal s)) → Inner (cosI s)
 unfolding isTotal
 inner s h t =
     let e = gap s (h .fin) t in
@@ -307,7 +339,7 @@ squared x y f g n m p = contrast-share x y (f .1) (g .1) (le-nil x f n) (f .0) (
 pub record Indexed (e x : Float) : Type 0 where
   pub fin : Fin (e ⊗ x)
   pub above : N (e ⊗ x) ≡ 0
-  pub some : 128 ≤ mag x → 1 ≤ mag (e ⊗ x)
+  pub some : indexMost ≤ mag x → 1 ≤ mag (e ⊗ x)
 
 abbrev pub productSize : Float → Float → ℕ
 productSize e x = rnd 53 (mag e * mag x * U) (U * U)
@@ -325,23 +357,26 @@ indexed-below e x i f n l =
     record {
       fin = q .fin;
       above = q .zero-N;
-      some = λ (h : 128 ≤ b).
+      some = λ (h : indexMost ≤ b).
           let low = mul-le-mul-right U (le-trans (i .low) (le-trans (mul-le-mul-right a h) (le-of-eq (mul-comm b a)))) in
           subst (λ (z : ℕ). 1 ≤ z) (sym (q .is)) (rnd-ge 1 (a * b * U) (U * U) p held1 (le-trans (le-of-eq (one-mul (U * U))) low));
     }
 
-h37 : (rnd 53 (137438953472 * U) 1 ≡ 137438953472 * U) × (137438953472 * U < O)
-unfolding U O
-h37 = (rnd-fix 53 1 1111 (lit< tt), lit< tt)
+-- something as large as the cosine inside
+abbrev termBits : ℕ
+termBits = sin2Bits + 3
 
--- something of at most 2 ^ 30
-indexed : (e x : Float) → Index e → Upto 1073741824 x → N x ≡ 0 → Indexed e x
+abbrev termMost : ℕ
+termMost = 2 ^ termBits
+
+indexed : (e x : Float) → Index e → Upto termMost x → N x ≡ 0 → Indexed e x
 indexed e x i h n =
+    let o = held-power (indexBits + termBits) (lit≤ tt) in
     let high = le-trans (mul-le-mul-right U (mul-le-mul (i .high) (h .size))) (le-of-eq (re U)) in
-    let top = rnd-le (137438953472 * U) (mag e * mag x * U) (U * U) (mul-pos U-pos U-pos) (h37 .0) high in
-    indexed-below e x i (h .fin) n (lt-of-le-of-lt top (h37 .1))
+    let top = rnd-le (indexMost * termMost * U) (mag e * mag x * U) (U * U) (mul-pos U-pos U-pos) (o .0) high in
+    indexed-below e x i (h .fin) n (lt-of-le-of-lt top (o .1))
   where
-    re : (u : ℕ) → 128 * u * (1073741824 * u) * u ≡ 137438953472 * u * (u * u)
+    re : (u : ℕ) → indexMost * u * (termMost * u) * u ≡ indexMost * termMost * u * (u * u)
     re u = omega arith
 
 -- ---- half of a sum of two shares
@@ -371,7 +406,7 @@ unpolarized-share e c i f n y ec ei =
     (squared (e ⊗ c) i (ec .fin) (y .fin) (ec .above) (y .above) (lin (mag (e ⊗ c)) (mag i) (y .some)))
     (squared c (e ⊗ i) f (ei .fin) n (ei .above) (lin' (mag c) (mag (e ⊗ i)) (ei .some (y .some))))
   where
-    lin : (a b : ℕ) → 128 ≤ b → 1 ≤ a + b
+    lin : (a b : ℕ) → indexMost ≤ b → 1 ≤ a + b
     lin a b h = omega arith
 
     lin' : (a b : ℕ) → 1 ≤ b → 1 ≤ a + b
@@ -393,10 +428,10 @@ facing-share c e h n i = go (isTotal s) (inner s (sin2-upto c e h i))
     s = sin2I c e
 
     ec : Indexed e c
-    ec = indexed e c i (widen 64 1073741824 c (lit≤ tt) h) n
+    ec = indexed e c i (widen 64 termMost c (lit≤ tt) h) n
 
     ei : Inner (cosI s) → Indexed e (cosI s)
-    ei y = indexed e (cosI s) i (widen 536870915 1073741824 (cosI s) (lit≤ tt) (inner-upto s (sin2-upto c e h i))) (y .above)
+    ei y = indexed e (cosI s) i (widen innerMost termMost (cosI s) (lit≤ tt) (inner-upto s (sin2-upto c e h i))) (y .above)
 
     go : (b : Bool) → (T (not b) → Inner (cosI s)) → Share (cond b f1 (unpolarized e c (cosI s)))
     go true f = f1-share

@@ -20,7 +20,7 @@ use Rattle.numbers.proofs.NonNegative.{unit-is}
 use Rattle.numbers.proofs.Shares.{shares}
 use Rattle.numbers.proofs.Error.{Fin, M/2}
 use Rattle.numbers.proofs.Expression.{fv, _+ᶠ_, _-ᶠ_, _*ᶠ_, mg, tame, closed}
-use Rattle.numbers.proofs.Interpolation.{pos-of, Index}
+use Rattle.numbers.proofs.Interpolation.{pos-of, Index, indexBits, indexMost}
 use Rattle.numbers.proofs.UnitVector.{norm, k46, sum3, sum3-err, dot-ext, k51, twice51}
 use Rattle.numbers.specs.Float.{_⊕_, _⊖_, _⊗_, _⊘_, f0, f1, f2, abs}
 use Rattle.numbers.specs.Vec3.{vec3, add, sub, mulFloat, floatMul, divFloat, negate, dot, lengthSquared, projectOnto}
@@ -31,9 +31,9 @@ use Rattle.optics.specs.Facets.{isDelta}
 use Rattle.optics.specs.Fresnel.{indexFrom, sin2I, isTotal, cosI, meanSquare, unpolarized, frFacing, frReal, frComplex, frComplexFacing, fresnel, fAt}
 use Rattle.optics.specs.Bxdf.{direction, none, total, mirrored, reflect, bent, acrossOnly, refractFacing, refract, Scattered, scattered, lost, totally, branch, conductorFrom, rest, reflects, dielectricFrom}
 use Rattle.optics.proofs.Cosine.{dot-comm}
-use Rattle.optics.proofs.Sizes.{Upto, Span, widen, widen3, expression, f2-upto, neg-upto, negate-span, divide}
+use Rattle.optics.proofs.Sizes.{Upto, Span, widen, widen3, expression, f2-upto, neg-upto, negate-span, held-power, divide}
 use Rattle.optics.proofs.SampledNormal.{Unitary, unit-span, Local, local-span}
-use Rattle.optics.proofs.Fresnel.{Share, index-inverse, sin2-upto, inner-upto, fresnel-real, fresnel-share}
+use Rattle.optics.proofs.Fresnel.{Share, index-inverse, sin2-upto, innerMost, inner-upto, reach, fresnel-real, fresnel-share}
 
 abbrev B : Format
 B = binary64
@@ -85,7 +85,7 @@ unlike-false : (s : Bool) → unlike s false ≡ s
 unlike-false false = refl
 unlike-false true = refl
 
-div-one : (x : Float) → Fin x → x ⊘ f1 ≡ x
+pub div-one : (x : Float) → Fin x → x ⊘ f1 ≡ x
 div-one x f =
     let i = is-of x (f .0) (f .1) in
     let a = mag x in
@@ -170,14 +170,14 @@ self-dot n h =
     lin4 w D h = omega arith
 
 -- one part m of the normal, v of wo, and the cosine c; s is n · n
-mirror-part : (m c s v : Float) → Upto 2 m → Upto 64 c → Fin s → U ≤ 16384 * mag s → Upto 8 v → Upto 4294967296 (f2 ⊗ (m ⊗ c ⊘ s) ⊖ v)
+mirror-part : (m c s v : Float) → Upto 2 m → Upto 64 c → Fin s → U ≤ 16384 * mag s → Upto 8 v → Upto reach (f2 ⊗ (m ⊗ c ⊘ s) ⊖ v)
 unfolding closed tame mg
 mirror-part m c s v hm hc fs hs hv =
     let p = expression 8192 (m ∷ c ∷ []) (2 ∷ 64 ∷ []) (fv 0 *ᶠ fv 1) (hm, (hc, tt)) tt tt (lit≤ tt) in
-    let q = divide (m ⊗ c) s p fs hs in
-    expression 4294967296 (f2 ∷ m ⊗ c ⊘ s ∷ v ∷ []) (2 ∷ 134217728 ∷ 8 ∷ []) (fv 0 *ᶠ fv 1 -ᶠ fv 2) (f2-upto, (q, (hv, tt))) tt tt (lit≤ tt)
+    let q = divide 8192 16384 (m ⊗ c) s (held-power 27 (lit≤ tt)) p fs hs in
+    expression reach (f2 ∷ m ⊗ c ⊘ s ∷ v ∷ []) (2 ∷ 8192 * 16384 ∷ 8 ∷ []) (fv 0 *ᶠ fv 1 -ᶠ fv 2) (f2-upto, (q, (hv, tt))) tt tt (lit≤ tt)
 
-pub mirror-span : (wo n : Vec3) → Local wo → Unitary n → Span 4294967296 (mirrored wo n)
+pub mirror-span : (wo n : Vec3) → Local wo → Unitary n → Span reach (mirrored wo n)
 unfolding mirrored sub floatMul projectOnto divFloat mulFloat lengthSquared
 mirror-span wo n h u =
     let c = dot wo n in
@@ -192,20 +192,21 @@ mirror-span wo n h u =
     }
 
 -- ---- the bent direction
-index-low : (e : Float) → Index e → U ≤ 16384 * mag e
-index-low e i = le-trans (i .low) (mul-le-mul-right (mag e) (lit≤ tt))
+-- a value of at most 8192 by the index
+by-index : (x e : Float) → Upto 8192 x → Index e → Upto (8192 * indexMost) (x ⊘ e)
+by-index x e h i = divide 8192 indexMost x e (held-power (13 + indexBits) (lit≤ tt)) h (i .fin) (i .low)
 
-bend-part : (c e i v n : Float) → Upto 64 c → Index e → Upto 536870915 i → Upto 8 v → Upto 2 n
-    → Upto 4294967296 (neg v ⊘ e ⊕ (c ⊘ e ⊖ i) ⊗ n)
+bend-part : (c e i v n : Float) → Upto 64 c → Index e → Upto innerMost i → Upto 8 v → Upto 2 n
+    → Upto reach (neg v ⊘ e ⊕ (c ⊘ e ⊖ i) ⊗ n)
 unfolding closed tame mg
 bend-part c e i v n hc he hi hv hn =
-    let a = divide (neg v) e (widen 8 8192 (neg v) (lit≤ tt) (neg-upto 8 v hv)) (he .fin) (index-low e he) in
-    let b = divide c e (widen 64 8192 c (lit≤ tt) hc) (he .fin) (index-low e he) in
-    expression 4294967296 (neg v ⊘ e ∷ c ⊘ e ∷ i ∷ n ∷ []) (134217728 ∷ 134217728 ∷ 536870915 ∷ 2 ∷ []) (fv 0 +ᶠ (fv 1 -ᶠ fv 2) *ᶠ fv 3)
+    let a = by-index (neg v) e (widen 8 8192 (neg v) (lit≤ tt) (neg-upto 8 v hv)) he in
+    let b = by-index c e (widen 64 8192 c (lit≤ tt) hc) he in
+    expression reach (neg v ⊘ e ∷ c ⊘ e ∷ i ∷ n ∷ []) (8192 * indexMost ∷ 8192 * indexMost ∷ innerMost ∷ 2 ∷ []) (fv 0 +ᶠ (fv 1 -ᶠ fv 2) *ᶠ fv 3)
     (a, (b, (hi, (hn, tt)))) tt tt (lit≤ tt)
 
-bent-span : (e c i : Float) (wo n : Vec3) → Index e → Upto 64 c → Upto 536870915 i → Span 8 wo → Span 2 n
-    → Span 4294967296 (bent e c i wo n)
+bent-span : (e c i : Float) (wo n : Vec3) → Index e → Upto 64 c → Upto innerMost i → Span 8 wo → Span 2 n
+    → Span reach (bent e c i wo n)
 unfolding bent add divFloat negate floatMul
 bent-span e c i wo n he hc hi hw hn = record {
   x = bend-part c e i (wo .x) (n .x) hc he hi (hw .x) (hn .x);
@@ -253,9 +254,9 @@ total-is-one c eta t = go (isTotal (sin2I (abs c) e)) (subst (λ (s : Float). T 
     go : (b : Bool) → T b → cond b f1 (unpolarized e (abs c) (cosI (sin2I (abs c) e))) ≡ f1
     go true t = refl
 
--- ---- what the samplers give: a direction of finite parts of at most 2 ^ 32, or none
+-- ---- what the samplers give: a direction of finite parts of at most `reach`, or none
 abbrev pub Outcome : Scattered → Type 0
-Outcome (scattered wi reflection) = Span 4294967296 wi
+Outcome (scattered wi reflection) = Span reach wi
 Outcome lost = Unit {0}
 Outcome totally = ⊥
 
@@ -339,7 +340,7 @@ glass-never-total eta k u wo wh i z below h w e = subst (λ (s : Scattered). Out
 
 pub glass-direction : (eta k u : Float) (wo wh wi : Vec3) (reflection : Bool) → Index eta → T (eq k f0) → T (lt u f1) → Local wo
     → Unitary wh
-    → dielectricFrom eta (fAt wo wh eta k) u wo wh ≡ scattered wi reflection → Span 4294967296 wi
+    → dielectricFrom eta (fAt wo wh eta k) u wo wh ≡ scattered wi reflection → Span reach wi
 glass-direction eta k u wo wh wi reflection i z below h w e =
     subst (λ (s : Scattered). Outcome s) e (glass-outcome eta k u wo wh i z below h w)
 
@@ -358,9 +359,9 @@ metal-outcome a wo wh h w = go (isDelta a)
     turned = record { x = neg-upto 8 (wo .x) (l .x); y = neg-upto 8 (wo .y) (l .y); z = l .z }
 
     go : (b : Bool) → Outcome (cond b (scattered m true) (branch true (reflect wo wh)))
-    go true = widen3 8 4294967296 m (lit≤ tt) turned
+    go true = widen3 8 reach m (lit≤ tt) turned
     go false = reflect-outcome wo wh h w
 
 pub metal-direction : (a : Vec2) (wo wh wi : Vec3) (reflection : Bool) → Local wo → Unitary wh
-    → conductorFrom a wo wh ≡ scattered wi reflection → Span 4294967296 wi
+    → conductorFrom a wo wh ≡ scattered wi reflection → Span reach wi
 metal-direction a wo wh wi reflection h w e = subst (λ (s : Scattered). Outcome s) e (metal-outcome a wo wh h w)

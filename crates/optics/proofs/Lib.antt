@@ -1,6 +1,6 @@
 -- The laws, in the order in which they build on each other.
 pub mod Cosine
-pub mod Masking
+pub mod SharedTerms
 pub mod Samples
 pub mod Sizes
 pub mod SampledNormal

@@ -12,7 +12,7 @@ use Rattle.numbers.specs.Complex as C
 use Rattle.numbers.specs.declared.vec2.Vec2.{Vec2}
 use Rattle.numbers.specs.declared.vec3.Vec3.{Vec3}
 use Rattle.numbers.specs.SphericalUtils.{cosTheta, cos2Theta, sin2Theta, tan2Theta, sinTheta, cosPhi, sinPhi}
-use Rattle.optics.specs.Facets.{half, alpha2, lambda, lambdaOf, chiPass, chiPassAt, masked, gWith, g, g1With, g1, gOverG1With, gOverG1}
+use Rattle.optics.specs.Facets.{half, alpha2, lambda, lambdaOf, chiPass, masked, g, g1, gOverG1}
 use Rattle.optics.specs.Fresnel.{indexFrom, sin2I, isTotal, cosI, contrast, meanSquare, unpolarized, frFacing, frReal, complexCosI, rPar, rPer, frComplexFacing, frComplex, fresnel, fAt}
 use Rattle.optics.specs.Sampler.{stretched, upright, viewed, tangent, lerp, diskX, diskH, diskY, diskZ, onHemisphere, combined, unstretched, sampleNormal}
 use Rattle.optics.specs.Samples.{quarter, three-quarters, rough, w, Samples}
@@ -46,7 +46,7 @@ unfolding add sub mul div neg lt le eq isNan decimal epsilon max abs clamp signB
 lambda-w = refl
 
 g-w : g rough w w Z ≡ half
-unfolding add sub mul div neg lt le eq isNan decimal epsilon max abs clamp signBit signum isInfinite powi2 squareRoot dot cosTheta cos2Theta sin2Theta tan2Theta sinTheta cosPhi sinPhi alpha2 lambda lambdaOf chiPass chiPassAt masked gWith g g1With g1
+unfolding add sub mul div neg lt le eq isNan decimal epsilon max abs clamp signBit signum isInfinite powi2 squareRoot dot cosTheta cos2Theta sin2Theta tan2Theta sinTheta cosPhi sinPhi alpha2 lambda lambdaOf chiPass masked g g1
 g-w = refl
 
 -- the double nearest to 2/3
@@ -54,13 +54,13 @@ abbrev two-thirds : Float
 two-thirds = fin false 6004799503160661 (negsuc 52)
 
 g1-w : g1 rough w Z ≡ two-thirds
-unfolding add sub mul div neg lt le eq isNan decimal epsilon max abs clamp signBit signum isInfinite powi2 squareRoot dot cosTheta cos2Theta sin2Theta tan2Theta sinTheta cosPhi sinPhi alpha2 lambda lambdaOf chiPass chiPassAt masked gWith g g1With g1
+unfolding add sub mul div neg lt le eq isNan decimal epsilon max abs clamp signBit signum isInfinite powi2 squareRoot dot cosTheta cos2Theta sin2Theta tan2Theta sinTheta cosPhi sinPhi alpha2 lambda lambdaOf chiPass masked g g1
 g1-w = refl
 
 quotient :
     (a : Vec2) (wo wi wh : Vec3) (x y : Float) → g a wo wi wh ≡ x → g1 a wo wh ≡ y →
     gOverG1 a wo wi wh ≡ cond (eq y f0) f0 (div binary64 x y)
-unfolding gOverG1 gOverG1With g g1
+unfolding gOverG1
 quotient a wo wi wh x y p q = rw (p, q)
 
 not-zero : eq two-thirds f0 ≡ false
@@ -78,7 +78,7 @@ g-over-g1-w =
     ∙ weight
 
 g1-across : g1 rough Z X ≡ f0
-unfolding add sub mul div neg lt le eq isNan decimal epsilon max abs clamp signBit signum isInfinite powi2 squareRoot dot cosTheta cos2Theta sin2Theta tan2Theta sinTheta cosPhi sinPhi alpha2 lambda lambdaOf chiPass chiPassAt masked gWith g g1With g1
+unfolding add sub mul div neg lt le eq isNan decimal epsilon max abs clamp signBit signum isInfinite powi2 squareRoot dot cosTheta cos2Theta sin2Theta tan2Theta sinTheta cosPhi sinPhi alpha2 lambda lambdaOf chiPass masked g g1
 g1-across = refl
 
 normal-z : sampleNormal rough Z f0 f1 f0 ≡ Z

@@ -1,6 +1,6 @@
 -- Masking and shadowing: Λ of a direction with finite parts is not negative, or the infinity, so it is never a NaN; and the weight
 -- G / G1 of a bounce is from 0 to 1.
--- Proved: `lambda-not-below` for a direction of parts of at most 2 ^ 32, which those of Glass are; `weight-share` for two such
+-- Proved: `lambda-not-below` for a direction of parts of at most `reach`, which those of Glass are; `weight-share` for two such
 -- directions and any normal, so on glass and on metal. The tangent's square is a quotient of two values that are not negative, or
 -- 1 / 0; the clamped cosines of the azimuth are from -1 to 1.
 use mathlib.Core.Path.{_≡_, refl, sym, ap, _∙_, subst}
@@ -14,7 +14,7 @@ use lib.Dec.{T, eqb, eqb→eq, lit≤, lit<, T-not}
 use lib.Ieee.{Float, nan, inf, fin, Format, binary64, unlike, up, down, level, neg, add, sub, div, le, lt, eq, isNan, fits}
 use lib.Ieee.Fits.{and-i, eq→eqb, add-fits, mul-fits, div-fits, sub-fits}
 use lib.Ieee.Scale.{finite}
-use Rattle.numbers.proofs.Rounding.{rnd, rnd-fix, below-or-from}
+use Rattle.numbers.proofs.Rounding.{rnd, below-or-from}
 use Rattle.numbers.proofs.Units.{U, O, U-pos, U-O, Is, is-of, is-finite, is-same, sign, mag, either, units-pos}
 use Rattle.numbers.proofs.NonNegative.{Ext, Fine, unit-is, ext-le, finite-ext, nil-ext, unit-ext, mul-ext, div-ext, sub-fine, add-ext, fine-under, U-held, rnd-ge, rnd-le}
 use Rattle.numbers.proofs.Monotone.{size-of, recip-le, ratio}
@@ -28,10 +28,10 @@ use Rattle.numbers.specs.SquareRoot.{sqrt, squareRoot, rootOfUnits}
 use Rattle.numbers.specs.SphericalUtils.{cos2Theta, sin2Theta, tan2Theta, sinTheta, cosPhi, sinPhi}
 use Rattle.numbers.specs.declared.vec2.Vec2.{Vec2}
 use Rattle.numbers.specs.declared.vec3.Vec3.{Vec3}
-use Rattle.optics.specs.Facets.{alpha2, lambdaOf, lambda, chiPass, masked, g1With, gWith, gOverG1With, gOverG1}
-use Rattle.optics.proofs.Sizes.{Upto, Span, Number, div-number, widen, expression, f0-upto, f1-upto, f-1-upto, f2-units, upto-one, not-neg, nlt-parts, ext-N, NonNeg, max-zero, root-upto}
+use Rattle.optics.specs.Facets.{alpha2, lambdaOf, lambda, chiPass, masked, g1, g, gOverG1}
+use Rattle.optics.proofs.Sizes.{Upto, Span, Held, held-power, Number, div-number, widen, expression, f0-upto, f1-upto, f-1-upto, f2-units, upto-one, not-neg, nlt-parts, ext-N, NonNeg, max-zero, root-upto}
 use Rattle.optics.proofs.SampledNormal.{Rough, rough-x, rough-y}
-use Rattle.optics.proofs.Fresnel.{Share, f0-share, ext-pos}
+use Rattle.optics.proofs.Fresnel.{Share, f0-share, reachBits, reach, ext-pos}
 
 abbrev B : Format
 B = binary64
@@ -82,38 +82,33 @@ neq-zero (fin s zero e) f t =
     is-zero = either (Bool·beq s false) (eqb a 0) (inr (eq→eqb (z2 (up e))))
 neq-zero (fin s (suc m) e) f t = units-pos m (mag (fin s (suc m) e)) e (is-of (fin s (suc m) e) tt (f .1) .0 .1)
 
--- ---- the angles of a direction with parts of at most 2 ^ 32
-abbrev big : ℕ
-big = 4294967296
-
--- 2 ^ 65
+-- ---- the angles of a direction with parts of at most `reach`
 abbrev wide : ℕ
-wide = 36893488147419103232
+wide = 2 * (reach * reach)
 
-h64 : (rnd 53 (18446744073709551616 * U) 1 ≡ 18446744073709551616 * U) × (18446744073709551616 * U < O)
-unfolding U O
-h64 = (rnd-fix 53 1 1138 (lit< tt), lit< tt)
+reach-square : Held (reach * reach)
+reach-square = held-power (2 * reachBits) (lit≤ tt)
 
-cos2-pos : (w : Vec3) → Upto big (w .z) → Pos (cos2Theta w) (sq (mag (w .z)))
+cos2-pos : (w : Vec3) → Upto reach (w .z) → Pos (cos2Theta w) (sq (mag (w .z)))
 unfolding cos2Theta
 cos2-pos w h =
     let a = mag (w .z) in
     let high = le-trans (mul-le-mul-right U (mul-le-mul (h .size) (h .size))) (le-of-eq (re U)) in
-    let top = rnd-le (18446744073709551616 * U) (a * a * U) (U * U) (mul-pos U-pos U-pos) (h64 .0) high in
-    pos-of (w .z ⊗ w .z) (sq a) (mul-fits B (w .z) (w .z)) (sq-ext (w .z) (h .fin)) (lt-of-le-of-lt top (h64 .1))
+    let top = rnd-le (reach * reach * U) (a * a * U) (U * U) (mul-pos U-pos U-pos) (reach-square .0) high in
+    pos-of (w .z ⊗ w .z) (sq a) (mul-fits B (w .z) (w .z)) (sq-ext (w .z) (h .fin)) (lt-of-le-of-lt top (reach-square .1))
   where
-    re : (u : ℕ) → 4294967296 * u * (4294967296 * u) * u ≡ 18446744073709551616 * u * (u * u)
+    re : (u : ℕ) → reach * u * (reach * u) * u ≡ reach * reach * u * (u * u)
     re u = omega arith
 
-gap-upto : (w : Vec3) → Upto big (w .z) → Upto wide (f1 ⊖ cos2Theta w)
+gap-upto : (w : Vec3) → Upto reach (w .z) → Upto wide (f1 ⊖ cos2Theta w)
 unfolding closed tame mg cos2Theta
-gap-upto w h = expression wide (f1 ∷ w .z ∷ []) (1 ∷ big ∷ []) (fv 0 -ᶠ fv 1 *ᶠ fv 1) (f1-upto, (h, tt)) tt tt (lit≤ tt)
+gap-upto w h = expression wide (f1 ∷ w .z ∷ []) (1 ∷ reach ∷ []) (fv 0 -ᶠ fv 1 *ᶠ fv 1) (f1-upto, (h, tt)) tt tt (lit≤ tt)
 
-sin2-nn : (w : Vec3) → Upto big (w .z) → NonNeg wide (sin2Theta w)
+sin2-nn : (w : Vec3) → Upto reach (w .z) → NonNeg wide (sin2Theta w)
 unfolding sin2Theta
 sin2-nn w h = max-zero wide (f1 ⊖ cos2Theta w) (gap-upto w h)
 
-sin-upto : (w : Vec3) → Upto big (w .z) → Upto (2 * wide + 3) (sinTheta w)
+sin-upto : (w : Vec3) → Upto reach (w .z) → Upto (2 * wide + 3) (sinTheta w)
 unfolding sinTheta
 sin-upto w h = let s = sin2-nn w h in root-upto wide (sin2Theta w) (s .up) (s .nn0)
 
@@ -157,7 +152,7 @@ sin2-is-one w c m0 =
     full : (u : ℕ) → u - 0 ≡ u
     full u = omega arith
 
-tan-of : (w : Vec3) → Upto big (w .z) → Tan w
+tan-of : (w : Vec3) → Upto reach (w .z) → Tan w
 unfolding tan2Theta
 tan-of w h = go (below-or-from 0 (mag c2))
   where
@@ -183,7 +178,7 @@ tan-of w h = go (below-or-from 0 (mag c2))
     go (inr z) = let m0 = none (mag c2) z in inr (zero-div s2 c2 U (sin2-is-one w c m0) U-pos (c .fin) m0)
 
 -- ---- the azimuth
-phi : (x : Float) (w : Vec3) (pole : Float) → Fin x → Upto 1 pole → Upto big (w .z)
+phi : (x : Float) (w : Vec3) (pole : Float) → Fin x → Upto 1 pole → Upto reach (w .z)
     → Upto 1 (cond (eq (sinTheta w) f0) pole (clamp f-1 f1 (x ⊘ sinTheta w)))
 phi x w pole f hp h = go (eq (sinTheta w) f0) (neq-zero (sinTheta w) (r .fin))
   where
@@ -197,11 +192,11 @@ phi x w pole f hp h = go (eq (sinTheta w) f0) (neq-zero (sinTheta w) (r .fin))
     go true p = hp
     go false p = clamp-upto q (div-fits B x (sinTheta w)) (div-number x (sinTheta w) f (r .fin) (p tt))
 
-cos-phi-upto : (w : Vec3) → Span big w → Upto 1 (cosPhi w)
+cos-phi-upto : (w : Vec3) → Span reach w → Upto 1 (cosPhi w)
 unfolding cosPhi
 cos-phi-upto w h = phi (w .x) w f1 (h .x .fin) f1-upto (h .z)
 
-sin-phi-upto : (w : Vec3) → Span big w → Upto 1 (sinPhi w)
+sin-phi-upto : (w : Vec3) → Span reach w → Upto 1 (sinPhi w)
 unfolding sinPhi
 sin-phi-upto w h = phi (w .y) w f0 (h .y .fin) (widen 0 1 f0 (lit≤ tt) f0-upto) (h .z)
 
@@ -219,7 +214,7 @@ squares-pos x y hx hy =
     let e = add-ext (x ⊗ x) (y ⊗ y) (sq (mag x)) (sq (mag y)) (sq-ext x (hx .fin)) (sq-ext y (hy .fin)) in
     (t .fin, pos-of s n (t .fin .1) e (finite-ext s n e (t .fin .0)) .zero-N)
 
-alpha2-pos : (a : Vec2) (w : Vec3) → Rough a → Span big w → Fin (alpha2 a w) × (N (alpha2 a w) ≡ 0)
+alpha2-pos : (a : Vec2) (w : Vec3) → Rough a → Span reach w → Fin (alpha2 a w) × (N (alpha2 a w) ≡ 0)
 unfolding alpha2 powi2
 alpha2-pos a w r h =
     let x = product-upto (a .x) (cosPhi w) (rough-x a r .up) (cos-phi-upto w h) in
@@ -293,7 +288,7 @@ inf-yes : (x : Float) → x ≡ inf false → T (isInfinite x)
 unfolding isInfinite
 inf-yes x q = subst (λ (z : Float). T (isInfinite z)) (sym q) tt
 
-lambda-ext : (a : Vec2) (w : Vec3) → Rough a → Span big w → FromZero (lambda a w)
+lambda-ext : (a : Vec2) (w : Vec3) → Rough a → Span reach w → FromZero (lambda a w)
 unfolding lambda
 lambda-ext a w r h = go (isInfinite (tan2Theta w)) refl (tan-of w (h .z))
   where
@@ -328,7 +323,7 @@ lambda-fits a w = go (isInfinite (tan2Theta w))
     go true = tt
     go false = div-fits B (sqrt (max (f1 ⊕ t) f0) ⊖ f1) f2
 
-pub lambda-not-below : (a : Vec2) (w : Vec3) → Rough a → Span 4294967296 w → T (le f0 (lambda a w))
+pub lambda-not-below : (a : Vec2) (w : Vec3) → Rough a → Span reach w → T (le f0 (lambda a w))
 lambda-not-below a w r h = let e = lambda-ext a w r h in ext-le f0 (lambda a w) 0 (e .0) nil-ext (e .1) zero-le
 
 -- ---- the weight
@@ -350,8 +345,8 @@ recip s f low =
     lin : (u p : ℕ) → u * 1 ≤ u + p
     lin u p = omega arith
 
-pub weight-share : (a : Vec2) (wo wi wh : Vec3) → Rough a → Span 4294967296 wo → Span 4294967296 wi → Share (gOverG1 a wo wi wh)
-unfolding gOverG1 gOverG1With g1With gWith masked
+pub weight-share : (a : Vec2) (wo wi wh : Vec3) → Rough a → Span reach wo → Span reach wi → Share (gOverG1 a wo wi wh)
+unfolding gOverG1 g1 g masked
 weight-share a wo wi wh r ho hi = seen (chiPass wo wh)
   where
     s : Float

@@ -8,14 +8,15 @@ use mathlib.Core.Logic.{inl, inr}
 use mathlib.Core.List.{List, [], _∷_}
 use mathlib.Core.Bool.{Bool, true, false, not, cond}
 use Prim.Native.Nat.{ℕ, zero, suc, _+_, _-_, _*_, _^_, _≤_, _<_, zero-le}
-use native.Mathlib.Nat.{le-trans, le-of-eq, lt-of-le-of-lt, lt-of-lt-of-le, lt-irrefl, not-le-of-lt, mul-le-mul-right, mul-le-mul-left, mul-le-mul, mul-pos, mul-comm, mul-assoc, mul-right-comm, zero-lt-suc}
+use native.Mathlib.Nat.{le-trans, le-of-eq, lt-of-le-of-lt, lt-of-lt-of-le, lt-irrefl, not-le-of-lt, mul-le-mul-right, mul-le-mul-left, mul-le-mul, mul-pos, mul-comm, mul-assoc, mul-right-comm, mul-zero, one-mul, zero-lt-suc}
 use native.Mathlib.Omega.{arith}
 use lib.IntN.{ℤ}
 use lib.Dec.{T, ltb, ltb→lt, nltb→le, lit≤, lit<}
+use lib.Pow.{pow-add, pow-mono}
 use lib.Ieee.{Float, nan, inf, fin, Format, binary64, unlike, up, down, below, isNan, round, neg, le, lt, fits}
 use lib.Ieee.Fits.{div-fits, up-pos, down-pos}
 use Rattle.numbers.proofs.Rounding.{rnd, rnd-fix, below-or-from}
-use Rattle.numbers.proofs.Units.{U, O, U-pos, Is, is-of, is-finite, is-same, sign, mag, Below, move, div-is, round-units, round-over, units-pos}
+use Rattle.numbers.proofs.Units.{U, O, U-is, U-pos, Is, is-of, is-finite, is-same, sign, mag, Below, move, div-is, round-units, round-over, units-pos}
 use Rattle.numbers.proofs.NonNegative.{Ext, none-below, rnd-le}
 use Rattle.numbers.proofs.Error.{Fin, P, N, M, le-parts, neg-parts}
 use Rattle.numbers.proofs.WholeRoot.{RootErr, rootOf-err}
@@ -319,9 +320,22 @@ quotient-upto k x y f g p o l =
     let fq : Fin q = (is-finite q s r i, div-fits B x y) in
     record { fin = fq; size = le-trans (le-of-eq (is-same q (sign q) s (mag q) r (is-of q (fq .0) (fq .1) .0) i .1)) l }
 
-four-U : (rnd 53 (4 * U) 1 ≡ 4 * U) × (4 * U < O)
-unfolding U O
-four-U = (rnd-fix 53 1 1076 (lit< tt), lit< tt)
+-- a whole number that rounding leaves alone, below the overflow: a power of two
+abbrev pub Held : ℕ → Type 0
+Held k = (rnd 53 (k * U) 1 ≡ k * U) × (k * U < O)
+
+room : 2 ^ 1174 < O
+unfolding O
+room = lit< tt
+
+pub held-power : (n : ℕ) → n ≤ 100 → Held (2 ^ n)
+held-power n h =
+    let e : 2 ^ (n + 1074) ≡ 2 ^ n * U = pow-add 2 n 1074 ∙ ap (λ (z : ℕ). 2 ^ n * z) (sym U-is) in
+    let fixed = rnd-fix 53 1 (n + 1074) (lit< tt) in
+    (subst (λ (z : ℕ). rnd 53 z 1 ≡ z) (one-mul (2 ^ (n + 1074)) ∙ e) fixed, subst (λ (z : ℕ). z < O) e (lt-of-le-of-lt (pow-mono (more n h)) room))
+  where
+    more : (n : ℕ) → n ≤ 100 → n + 1074 ≤ 1174
+    more n h = omega arith
 
 f2-mag : mag f2 ≡ 2 * U
 unfolding U
@@ -331,25 +345,24 @@ f2-mag = refl
 pub half : (x : Float) → Upto 4 x → Upto 4 (x ⊘ f2)
 half x h =
     let p : 0 < 2 * U = mul-pos (lit< tt) U-pos in
-    let l = rnd-le (4 * U) (mag x * U) (2 * U) p (four-U .0) (go (mag x) U (h .size)) in
-    quotient-upto 4 x f2 (h .fin) (f2-upto .fin) (subst (λ (z : ℕ). 0 < z) (sym f2-mag) p) (four-U .1) (rw f2-mag l)
+    let o = held-power 2 (lit≤ tt) in
+    let l = rnd-le (4 * U) (mag x * U) (2 * U) p (o .0) (go (mag x) U (h .size)) in
+    quotient-upto 4 x f2 (h .fin) (f2-upto .fin) (subst (λ (z : ℕ). 0 < z) (sym f2-mag) p) (o .1) (rw f2-mag l)
   where
     go : (a u : ℕ) → a ≤ 4 * u → a * u ≤ 4 * u * (2 * u)
     go a u h = let k = mul-le-mul-right u h in omega arith
 
-h27 : (rnd 53 (134217728 * U) 1 ≡ 134217728 * U) × (134217728 * U < O)
-unfolding U O
-h27 = (rnd-fix 53 1 1101 (lit< tt), lit< tt)
+-- a factor of a product above 0
+pub factor-pos : (l b : ℕ) → 0 < l * b → 0 < b
+factor-pos l zero h = absurd (lt-irrefl 0 (subst (λ (z : ℕ). 0 < z) (mul-zero l) h))
+factor-pos l (suc b) h = zero-lt-suc b
 
--- by a divisor of at least 2 ^ -14
-pub divide : (x y : Float) → Upto 8192 x → Fin y → U ≤ 16384 * mag y → Upto 134217728 (x ⊘ y)
-divide x y h f l =
-    let p = some (mag y) (lt-of-lt-of-le U-pos l) in
-    let r = rnd-le (134217728 * U) (mag x * U) (mag y) p (h27 .0) (le-trans (mul-le-mul (h .size) l) (le-of-eq (re U (mag y)))) in
-    quotient-upto 134217728 x y (h .fin) f p (h27 .1) r
+-- by a divisor of at least 1 / l
+pub divide : (k l : ℕ) (x y : Float) → Held (k * l) → Upto k x → Fin y → U ≤ l * mag y → Upto (k * l) (x ⊘ y)
+divide k l x y o h f low =
+    let p = factor-pos l (mag y) (lt-of-lt-of-le U-pos low) in
+    let r = rnd-le (k * l * U) (mag x * U) (mag y) p (o .0) (le-trans (mul-le-mul (h .size) low) (le-of-eq (re k l U (mag y)))) in
+    quotient-upto (k * l) x y (h .fin) f p (o .1) r
   where
-    some : (b : ℕ) → 0 < 16384 * b → 0 < b
-    some b h = omega arith
-
-    re : (u b : ℕ) → 8192 * u * (16384 * b) ≡ 134217728 * u * b
-    re u b = omega arith
+    re : (k l u b : ℕ) → k * u * (l * b) ≡ k * l * u * b
+    re k l u b = omega arith

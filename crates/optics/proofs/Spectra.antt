@@ -1,10 +1,10 @@
--- What the spectra of an accepted surface are at a wavelength from 360 to 830, and that a lone index in eta's limits is in range.
--- Proved: eta is finite and from 1 / 128 to 128 (`eta-index`, `lone-index`), and on glass k compares equal to 0 (`glass-k-zero`). The
+-- What the spectra of an accepted surface are at a wavelength from 360 to 830.
+-- Proved: eta is finite and from 1 / 128 to 128 (`eta-read`), so an index (`eta-index`), and on glass k compares equal to 0 (`glass-k-zero`). The
 -- first by the lookup's laws of the crate `numbers`; the second since a sum of products with zeros, of either sign, is a zero.
 use mathlib.Core.Path.{_≡_, refl, sym, ap, _∙_, subst}
 use mathlib.Core.Logic.{inl, inr}
 use mathlib.Core.Bool.{Bool·beq, Bool, true, false, _||_, cond}
-use mathlib.Core.List.{List, [], _∷_}
+use mathlib.Core.List.{List}
 use Prim.Native.Nat.{ℕ, zero, suc, _-_, _*_, _≤_, _<_, zero-le}
 use native.Mathlib.Nat.{le-trans, le-of-eq, lt-of-le-of-lt, lt-of-lt-of-le, not-le-of-lt, mul-pos, zero-lt-suc}
 use native.Mathlib.Omega.{arith}
@@ -16,11 +16,11 @@ use Rattle.numbers.proofs.Rounding.{rnd}
 use Rattle.numbers.proofs.Units.{U, O, U-pos, U-O, mag, either}
 use Rattle.numbers.proofs.NonNegative.{Ext, Fine, mul-ext, add-ext, nil-ext, fine-of, rnd-zero, share-of}
 use Rattle.numbers.proofs.Error.{Fin, N}
-use Rattle.numbers.proofs.Interpolation.{Index, AllFit, Place, range-of, fine-N, dense-place, sample-index}
+use Rattle.numbers.proofs.Interpolation.{readMost, Read, Index, read-index, AllFit, Place, range-of, fine-N, dense-place, entry-every, sample-index}
 use Rattle.numbers.proofs.Shares.{shares}
 use Rattle.numbers.specs.Float.{_⊕_, _⊖_, _⊗_, f0, f1, decimal, within}
-use Rattle.numbers.specs.DenseSpectrum.{denseSamples, denseStep, terminated, entry, interpolate, upperPoint, upperLambda, upperWeight, sampleOneAt, sampleOne, every, allWithin, isWavelength}
-use Rattle.optics.specs.Surface.{etaMin, etaMax, isEta, isSpectrum, etaHolds, allZero, kEntriesHold, kHolds, etaAt, kAt}
+use Rattle.numbers.specs.DenseSpectrum.{denseSamples, isTable, denseStep, terminated, entry, interpolate, upperPoint, upperLambda, upperWeight, sampleOneAt, sampleOne, allWithin, isWavelength}
+use Rattle.optics.specs.Surface.{etaMin, etaMax, isEta, etaHolds, allZero, kEntriesHold, kHolds, etaAt, kAt}
 use Rattle.optics.specs.declared.microfacet.Kind.the-variants.{Glass}
 use Rattle.optics.proofs.Sizes.{f0-upto, f0-parts}
 
@@ -32,41 +32,17 @@ max-is : etaMax ≡ decimal 100 1
 unfolding decimal
 max-is = refl
 
-pub eta-index : (eta : List Float) (lambda : Float) → AllFit eta → T (etaHolds eta) → T (fits B lambda) → T (isWavelength lambda)
-    → Index (etaAt eta lambda)
-unfolding etaHolds isSpectrum etaMin etaAt
-eta-index eta lambda all holds f w =
+pub eta-read : (eta : List Float) (lambda : Float) → AllFit eta → T (etaHolds eta) → T (fits B lambda) → T (isWavelength lambda)
+    → Read (etaAt eta lambda)
+unfolding etaHolds isTable etaMin etaAt
+eta-read eta lambda all holds f w =
     let entries = eqb→eq (length eta) denseSamples (and-l (eqb (length eta) denseSamples) (allWithin (decimal 1 100) etaMax eta) holds) in
     let limits = and-r (eqb (length eta) denseSamples) (allWithin (decimal 1 100) etaMax eta) holds in
     sample-index lambda eta f w entries all (subst (λ (hi : Float). T (allWithin (decimal 1 100) hi eta)) max-is limits)
 
--- a lone index in the limits of eta's entries
-eta-sizes : (U ≤ 100 * mag etaMin) × (mag etaMax ≤ 100 * U)
-unfolding etaMin decimal U
-eta-sizes = (lit≤ tt, lit≤ tt)
-
-eta-fin : Fin etaMin × Fin etaMax × (N etaMin ≡ 0) × (N etaMax ≡ 0)
-unfolding etaMin decimal lib.Ieee.fits N U
-eta-fin = ((tt, tt), (tt, tt), refl, refl)
-
-pub lone-index : (eta : Float) → T (fits B eta) → T (isEta eta) → Index eta
-unfolding isEta within
-lone-index eta f h =
-    let low = and-l (le etaMin eta) (le eta etaMax) h in
-    let high = and-r (le etaMin eta) (le eta etaMax) h in
-    let r = range-of etaMin etaMax eta (eta-fin .0) (eta-fin .1) (eta-fin .2) (eta-fin .3) f low high in
-    record {
-      fin = r .fin;
-      above = r .above;
-      low = at-least U (mag etaMin) (mag eta) (eta-sizes .0) (r .low);
-      high = at-most U (mag etaMax) (mag eta) (eta-sizes .1) (r .high);
-    }
-  where
-    at-least : (u l m : ℕ) → u ≤ 100 * l → l ≤ m → u ≤ 128 * m
-    at-least u l m a b = omega arith
-
-    at-most : (u l m : ℕ) → l ≤ 100 * u → m ≤ l → m ≤ 128 * u
-    at-most u l m a b = omega arith
+pub eta-index : (eta : List Float) (lambda : Float) → AllFit eta → T (etaHolds eta) → T (fits B lambda) → T (isWavelength lambda)
+    → Index (etaAt eta lambda)
+eta-index eta lambda all holds f w = read-index (etaAt eta lambda) (eta-read eta lambda all holds f w)
 
 -- ---- zeros of either sign: no units
 abbrev Zero : Float → Type 0
@@ -125,16 +101,6 @@ zero-between x i₀ i₁ f low high h₀ h₁ =
     let sum = add-ext (i₀ ⊗ y) (i₁ ⊗ x) 0 0 (zero-product i₀ y (b .0) h₀ (b .1)) (zero-product i₁ x (a .0) h₁ (a .1)) in
     subst (λ (n : ℕ). Ext (i₀ ⊗ y ⊕ i₁ ⊗ x) n) (rnd-zero 1 (lit< tt)) sum
 
--- the entry at i, where every entry passes the test p
-entry-every : (p : Float → Bool) (values : List Float) (i : ℕ) → T (every p values) → i < length values → T (p (entry values i))
-unfolding every
-entry-every p [] i h l = absurd (not-le-of-lt l zero-le)
-entry-every p (v ∷ vs) zero h l = and-l (p v) (every p vs) h
-entry-every p (v ∷ vs) (suc i) h l = entry-every p vs i (and-r (p v) (every p vs) h) (less i (length vs) l)
-  where
-    less : (i n : ℕ) → suc i < suc n → i < n
-    less i n h = omega arith
-
 zero-sample : (k : List Float) (w : Float) → AllFit k → length k ≡ denseSamples → T (allZero k) → T (fits B w) → T (isWavelength w)
     → Zero (sampleOne k w)
 unfolding sampleOne sampleOneAt allZero allWithin upperWeight
@@ -171,7 +137,7 @@ zero-sample k w all len z f h = ended (eq w terminated)
 -- on glass k is all zero
 pub glass-k-zero : (k : List Float) (lambda : Float) → AllFit k → T (kHolds Glass k) → T (fits B lambda) → T (isWavelength lambda)
     → T (eq (kAt k lambda) f0)
-unfolding kHolds kEntriesHold isSpectrum kAt
+unfolding kHolds kEntriesHold isTable kAt
 glass-k-zero k lambda all holds f w =
     let entries = eqb→eq (length k) denseSamples (and-l (eqb (length k) denseSamples) (allZero k) holds) in
     let zeros = and-r (eqb (length k) denseSamples) (allZero k) holds in

@@ -1,5 +1,5 @@
 -- The densities of the samplers of metal and glass, in the order of operations of lumo's src/tracer/bxdf/microfacet.rs. Definitions only.
--- A NaN inside follows IEEE comparisons and `max`. eta and k are those at the leading wavelength, and lambdaWo is Λ(wo).
+-- A NaN inside follows IEEE comparisons and `max`. eta and k are those at the leading wavelength, and normalPdf is the density of the facet's normal wh.
 use mathlib.Core.Bool.{Bool, false, _||_, cond}
 use lib.IntN.{pos}
 use lib.Ieee.{Float, fin, lt, eq}
@@ -8,7 +8,7 @@ use Rattle.numbers.specs.Vec3.{Z, add, mulFloat, negate, dot, normalize}
 use Rattle.numbers.specs.SphericalUtils.{cosTheta, sameHemisphere}
 use Rattle.numbers.specs.declared.vec2.Vec2.{Vec2}
 use Rattle.numbers.specs.declared.vec3.Vec3.{Vec3}
-use Rattle.optics.specs.Facets.{isDelta, lambda, sampleNormalPdfWith}
+use Rattle.optics.specs.Facets.{isDelta, sampleNormalPdf}
 use Rattle.optics.specs.Fresnel.{fAt}
 use Rattle.optics.specs.Surface.{Microsurface, etaAt, kAt}
 use Rattle.optics.specs.Bxdf.{isSmooth, rest}
@@ -27,22 +27,25 @@ unfoldable pub atZ : Vec3 → Float → Float
 atZ wh density = cond (lt (f1 ⊖ cosTheta wh) epsilon) density f0
 
 -- the density of a mirrored direction: that of its normal, by 4 |wo · wh|, the Jacobian of the mirror (Walter et al. 2007, eq. 14)
-unfoldable pub mirroredPdf : Vec2 → Float → Vec3 → Vec3 → Float
-mirroredPdf a lambdaWo wo wh = sampleNormalPdfWith a lambdaWo wh wo ⊘ (f4 ⊗ abs (dot wo wh))
+unfoldable pub mirroredPdf : Float → Vec3 → Vec3 → Float
+mirroredPdf normalPdf wo wh = normalPdf ⊘ (f4 ⊗ abs (dot wo wh))
+
+-- the density of a bent direction: by |wi · wh| / (wi · wh + wo · wh / η)², the Jacobian of the bend (Walter et al. 2007, eq. 17)
+unfoldable pub bentPdf : Float → Float → Vec3 → Vec3 → Vec3 → Float
+bentPdf normalPdf ratio wo wi wh = normalPdf ⊗ abs (dot wi wh) ⊘ powi2 (dot wi wh ⊕ dot wo wh ⊘ ratio)
 
 -- ---- metal
 unfoldable pub conductorHalf : Vec3 → Vec3 → Vec3
 conductorHalf wo wi = onZSide (normalize (add wo wi))
 
-unfoldable pub conductorPdfWith : Vec2 → Float → Vec3 → Vec3 → Float
-conductorPdfWith a lambdaWo wo wi =
-    let wh = conductorHalf wo wi in
-    cond (sameHemisphere wi wo)
-    (cond (isDelta a) (atZ wh f1) (mirroredPdf a lambdaWo wo wh))
-    f0
+unfoldable pub conductorPdfFrom : Float → Bool → Vec3 → Vec3 → Vec3 → Float
+conductorPdfFrom normalPdf delta wo wi wh =
+    cond (sameHemisphere wi wo) (cond delta (atZ wh f1) (mirroredPdf normalPdf wo wh)) f0
 
 unfoldable pub conductorPdf : Vec2 → Vec3 → Vec3 → Float
-conductorPdf a wo wi = conductorPdfWith a (lambda a wo) wo wi
+conductorPdf a wo wi =
+    let wh = conductorHalf wo wi in
+    conductorPdfFrom (sampleNormalPdf a wh wo) (isDelta a) wo wi wh
 
 -- ---- glass
 -- the index from wo's side to wi's: 1 for a reflection
@@ -60,33 +63,29 @@ isDiscarded whDotWo whDotWi wo wi =
     || (lt (whDotWo ⊗ cosTheta wo) f0 || lt (whDotWi ⊗ cosTheta wi) f0)
 
 -- a reflection's share pr, and a passed one's pt
-unfoldable pub reflectedPdf : Vec2 → Float → Float → Float → Vec3 → Vec3 → Float
-reflectedPdf a lambdaWo eta pr wo wh =
-    cond (isSmooth a eta)
+unfoldable pub reflectedPdf : Float → Bool → Float → Vec3 → Vec3 → Float
+reflectedPdf normalPdf smooth pr wo wh =
+    cond smooth
     (atZ wh (pr ⊘ (pr ⊕ rest pr)))
-    (mirroredPdf a lambdaWo wo wh ⊗ pr ⊘ (pr ⊕ rest pr))
+    (mirroredPdf normalPdf wo wh ⊗ pr ⊘ (pr ⊕ rest pr))
 
--- the density of the normal by |wi · wh| / (wi · wh + wo · wh / η)², the Jacobian of the bend (Walter et al. 2007, eq. 17)
-unfoldable pub passedPdf : Vec2 → Float → Float → Float → Float → Vec3 → Vec3 → Vec3 → Float
-passedPdf a lambdaWo eta ratio pr wo wi wh =
-    cond (isSmooth a eta)
+unfoldable pub passedPdf : Float → Bool → Float → Float → Vec3 → Vec3 → Vec3 → Float
+passedPdf normalPdf smooth ratio pr wo wi wh =
+    cond smooth
     (atZ wh (rest pr ⊘ (pr ⊕ rest pr)))
-    (sampleNormalPdfWith a lambdaWo wh wo ⊗ abs (dot wi wh) ⊘ powi2 (dot wi wh ⊕ dot wo wh ⊘ ratio)
-    ⊗ rest pr ⊘ (pr ⊕ rest pr))
+    (bentPdf normalPdf ratio wo wi wh ⊗ rest pr ⊘ (pr ⊕ rest pr))
 
-unfoldable pub dielectricAt : Vec2 → Float → Float → Float → Float → Bool → Vec3 → Vec3 → Vec3 → Float
-dielectricAt a lambdaWo eta k ratio reflection wo wi wh =
+unfoldable pub dielectricPdfFrom : Float → Bool → Float → Float → Float → Bool → Vec3 → Vec3 → Vec3 → Float
+dielectricPdfFrom normalPdf smooth eta k ratio reflection wo wi wh =
     let pr = fAt wo wh eta k in
     cond (isDiscarded (dot wo wh) (dot wi wh) wo wi) f0
-    (cond reflection (reflectedPdf a lambdaWo eta pr wo wh) (passedPdf a lambdaWo eta ratio pr wo wi wh))
-
-unfoldable pub dielectricPdfWith : Vec2 → Float → Float → Float → Bool → Vec3 → Vec3 → Float
-dielectricPdfWith a lambdaWo eta k reflection wo wi =
-    let ratio = etaRatio reflection wo eta in
-    dielectricAt a lambdaWo eta k ratio reflection wo wi (dielectricHalf eta ratio wo wi)
+    (cond reflection (reflectedPdf normalPdf smooth pr wo wh) (passedPdf normalPdf smooth ratio pr wo wi wh))
 
 unfoldable pub dielectricPdf : Vec2 → Float → Float → Bool → Vec3 → Vec3 → Float
-dielectricPdf a eta k reflection wo wi = dielectricPdfWith a (lambda a wo) eta k reflection wo wi
+dielectricPdf a eta k reflection wo wi =
+    let ratio = etaRatio reflection wo eta in
+    let wh = dielectricHalf eta ratio wo wi in
+    dielectricPdfFrom (sampleNormalPdf a wh wo) (isSmooth a eta) eta k ratio reflection wo wi wh
 
 -- ---- lumo's `BxDF::pdf`: light that passes metal has none
 unfoldable pub pdfOf : Kind → Vec2 → Float → Float → Bool → Vec3 → Vec3 → Float

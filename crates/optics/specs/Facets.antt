@@ -3,14 +3,12 @@
 use mathlib.Core.Bool.{Bool, false, cond}
 use lib.IntN.{negsuc}
 use lib.Ieee.{Float, fin, lt, eq}
-use Rattle.numbers.specs.Float.{_⊕_, _⊖_, _⊗_, _⊘_, f0, f1, f2, decimal, epsilon, max, abs, signum, isInfinite, powi2, powi5, clamp, f-1}
+use Rattle.numbers.specs.Float.{_⊕_, _⊖_, _⊗_, _⊘_, f0, f1, f2, decimal, epsilon, max, abs, signum, isInfinite, powi2, powi5}
 use Rattle.numbers.specs.SquareRoot.{sqrt}
 use Rattle.numbers.specs.SphericalUtils.{cosTheta, cos2Theta, tan2Theta, cosPhi, sinPhi}
 use Rattle.numbers.specs.Vec3.{dot}
 use Rattle.numbers.specs.declared.vec2.Vec2.{Vec2}
 use Rattle.numbers.specs.declared.vec3.Vec3.{Vec3}
-use Rattle.optics.specs.declared.microfacet.Masking.{Masking}
-use Rattle.optics.specs.declared.microfacet.Masking.the-variants.{Known, Unknown}
 
 -- the double nearest to π
 abbrev pub pi : Float
@@ -19,10 +17,6 @@ pi = fin false 884279719003555 (negsuc 47)
 -- a surface so smooth that it scatters into one direction: mean roughness below 1e-3
 unfoldable pub isDelta : Vec2 → Bool
 isDelta a = lt ((a .x ⊕ a .y) ⊘ f2) (decimal 1 1000)
-
--- the cosine or the sine of the azimuth from the direction's part along x or y and the sine of its polar angle; `pole` where that is 0
-unfoldable pub azimuth : Float → Float → Float → Float
-azimuth part sin pole = cond (eq sin f0) pole (clamp f-1 f1 (part ⊘ sin))
 
 -- ---- Λ(w) = (√(1 + α² tan² θ) - 1) / 2, with α² = αx² cos² φ + αy² sin² φ
 unfoldable pub alpha2 : Vec2 → Vec3 → Float
@@ -34,45 +28,23 @@ lambdaOf t = (sqrt (max (f1 ⊕ t) f0) ⊖ f1) ⊘ f2
 unfoldable pub lambda : Vec2 → Vec3 → Float
 lambda a w = cond (isInfinite (tan2Theta w)) f0 (lambdaOf (alpha2 a w ⊗ tan2Theta w))
 
--- Λ(wo) by what is known of it: at hand, or still to be computed
-unfoldable pub lambdaFrom : Masking → Vec2 → Vec3 → Float
-lambdaFrom (Known lambdaWo) a wo = lambdaWo
-lambdaFrom Unknown a wo = lambda a wo
-
 -- ---- χ⁺: whether wo sees the facet's front. The sign of wh's cosine is there for refraction; at EPSILON itself it is false.
-unfoldable pub chiPassAt : Float → Vec3 → Vec3 → Bool
-chiPassAt woDotWh wo wh = lt epsilon (signum (cosTheta wh) ⊗ woDotWh ⊗ cosTheta wo)
-
 unfoldable pub chiPass : Vec3 → Vec3 → Bool
-chiPass wo wh = chiPassAt (dot wo wh) wo wh
+chiPass wo wh = lt epsilon (signum (cosTheta wh) ⊗ dot wo wh ⊗ cosTheta wo)
 
 -- ---- G1(wo) = 1 / (1 + Λ(wo)) and G(wo, wi) = 1 / (1 + Λ(wo) + Λ(wi)), summed in this order; 0 where wo doesn't see the facet
--- The forms `..With` are from Λ(wo) at hand, and the forms `..At` from the cosine wo · wh besides.
 unfoldable pub masked : Bool → Float → Float
 masked chi total = cond chi (f1 ⊘ total) f0
 
-unfoldable pub g1At : Float → Float → Vec3 → Vec3 → Float
-g1At lambdaWo woDotWh wo wh = masked (chiPassAt woDotWh wo wh) (f1 ⊕ lambdaWo)
-
-unfoldable pub g1With : Float → Vec3 → Vec3 → Float
-g1With lambdaWo wo wh = masked (chiPass wo wh) (f1 ⊕ lambdaWo)
-
 unfoldable pub g1 : Vec2 → Vec3 → Vec3 → Float
-g1 a wo wh = g1With (lambda a wo) wo wh
-
-unfoldable pub gWith : Vec2 → Float → Vec3 → Vec3 → Vec3 → Float
-gWith a lambdaWo wo wi wh = masked (chiPass wo wh) (f1 ⊕ lambdaWo ⊕ lambda a wi)
+g1 a wo wh = masked (chiPass wo wh) (f1 ⊕ lambda a wo)
 
 unfoldable pub g : Vec2 → Vec3 → Vec3 → Vec3 → Float
-g a wo wi wh = gWith a (lambda a wo) wo wi wh
+g a wo wi wh = masked (chiPass wo wh) (f1 ⊕ lambda a wo ⊕ lambda a wi)
 
 -- the share of the light masked from neither side among that not masked from wo's: 0 if G1 is 0, else G / G1
-unfoldable pub gOverG1With : Vec2 → Float → Vec3 → Vec3 → Vec3 → Float
-gOverG1With a lambdaWo wo wi wh =
-    cond (eq (g1With lambdaWo wo wh) f0) f0 (gWith a lambdaWo wo wi wh ⊘ g1With lambdaWo wo wh)
-
 unfoldable pub gOverG1 : Vec2 → Vec3 → Vec3 → Vec3 → Float
-gOverG1 a wo wi wh = gOverG1With a (lambda a wo) wo wi wh
+gOverG1 a wo wi wh = cond (eq (g1 a wo wh) f0) f0 (g a wo wi wh ⊘ g1 a wo wh)
 
 -- ---- D(wh) = 1 / (π αx αy cos⁴ θ (1 + e)²), with e = tan² θ (cos² φ / αx² + sin² φ / αy²)
 unfoldable pub cos4Theta : Vec3 → Float
@@ -88,16 +60,8 @@ d a wh =
     (f1 ⊘ (pi ⊗ (a .x ⊗ a .y) ⊗ cos4Theta wh ⊗ powi2 (f1 ⊕ slopeSquared a wh))))
 
 -- ---- the density of the sampled normals, those that wo sees: G1(wo) D(wh) |wh · wo| / |cos θo| (Heitz 2018)
-unfoldable pub sampleNormalPdfWith : Vec2 → Float → Vec3 → Vec3 → Float
-sampleNormalPdfWith a lambdaWo wh wo = max (g1With lambdaWo wo wh ⊗ d a wh ⊗ abs (dot wh wo) ⊘ abs (cosTheta wo)) f0
-
 unfoldable pub sampleNormalPdf : Vec2 → Vec3 → Vec3 → Float
-sampleNormalPdf a wh wo = sampleNormalPdfWith a (lambda a wo) wh wo
-
--- from the one cosine wo · wh (the law `one-cosine` of proofs/Cosine.antt)
-unfoldable pub sampleNormalPdfAt : Vec2 → Float → Float → Vec3 → Vec3 → Float
-sampleNormalPdfAt a lambdaWo woDotWh wh wo =
-    max (g1At lambdaWo woDotWh wo wh ⊗ d a wh ⊗ abs woDotWh ⊘ abs (cosTheta wo)) f0
+sampleNormalPdf a wh wo = max (g1 a wo wh ⊗ d a wh ⊗ abs (dot wh wo) ⊘ abs (cosTheta wo)) f0
 
 -- ---- Schlick's approximation: F0 + (F90 - F0) (1 - cos θ)⁵
 unfoldable pub fSchlick : Float → Float → Float → Float

@@ -6,5 +6,6 @@ pub mod Fresnel
 pub mod Sampler
 pub mod Bxdf
 pub mod Density
+pub mod SharedTerms
 pub mod Checked
 pub mod Samples

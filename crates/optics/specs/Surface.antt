@@ -1,12 +1,10 @@
 -- A surface of metal or glass, what it may hold, and its spectra at a wavelength (document 01, "Records"; lumo's `MicrofacetConfig`). Definitions only.
 use mathlib.Core.Bool.{Bool, false, _&&_, _||_}
 use mathlib.Core.List.{List}
-use lib.Dec.{eqb}
-use lib.ListN.{length}
 use lib.Ieee.{Float, fin}
 use lib.IntN.{pos}
 use Rattle.numbers.specs.Float.{f0, f1, decimal, max, within}
-use Rattle.numbers.specs.DenseSpectrum.{denseSamples, sampleOne, isConstant, allWithin}
+use Rattle.numbers.specs.DenseSpectrum.{isTable, sampleOne, isConstant, allWithin}
 use Rattle.numbers.specs.Vec2.{splat}
 use Rattle.numbers.specs.declared.vec2.Vec2.{Vec2}
 use Rattle.optics.specs.declared.microfacet.Kind.{Kind}
@@ -50,11 +48,8 @@ isEta eta = within etaMin etaMax eta
 unfoldable pub roughnessHolds : Vec2 → Bool
 roughnessHolds a = isRoughness (a .x) && isRoughness (a .y)
 
-unfoldable pub isSpectrum : List Float → Bool
-isSpectrum values = eqb (length values) denseSamples
-
 unfoldable pub etaHolds : List Float → Bool
-etaHolds eta = isSpectrum eta && allWithin etaMin etaMax eta
+etaHolds eta = isTable eta && allWithin etaMin etaMax eta
 
 -- every entry from 0 to 0, which is zero of either sign
 unfoldable pub allZero : List Float → Bool
@@ -66,7 +61,7 @@ kEntriesHold Metal k = allZero k || allWithin kMin kMax k
 kEntriesHold Glass k = allZero k
 
 unfoldable pub kHolds : Kind → List Float → Bool
-kHolds kind k = isSpectrum k && kEntriesHold kind k
+kHolds kind k = isTable k && kEntriesHold kind k
 
 -- ---- the spectra at a wavelength: the one place where eta is read, and where it counts as constant
 unfoldable pub etaAt : List Float → Float → Float

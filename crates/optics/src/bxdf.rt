@@ -1,6 +1,6 @@
 // Mirror and bend, and lumo's `BxDF` for metal and glass: src/tracer/bxdf/microfacet.rs, bxdf.rs.
+use crate::microfacet::Ggx;
 use crate::microfacet::Kind;
-use crate::microfacet::Surface;
 use numbers::EPSILON;
 use numbers::spherical_utils;
 use numbers::square_root::sqrt_or_zero;
@@ -77,10 +77,9 @@ fn refract_facing(eta: f64, cos_to: f64, wo: Vec3, n: Vec3) -> Refracted
 
 // The density of the sampled directions, on local directions; `eta` and `k` are those at the leading
 // wavelength.
-pub fn pdf(mfd: Surface, wo: Vec3, wi: Vec3, reflection: bool, eta: f64, k: f64) -> f64
-    ensures { λ r. ⌜ r ≡ pdfOf (mfd .kind) (mfd .roughness) eta k reflection wo wi ⌝ }
+pub fn pdf(kind: Kind, mfd: Ggx, wo: Vec3, wi: Vec3, reflection: bool, eta: f64, k: f64) -> f64
+    ensures { λ r. ⌜ r ≡ pdfOf kind (mfd .roughness) eta k reflection wo wi ⌝ }
 {
-    let kind = mfd.kind;
     match kind {
         Kind::Metal => {
             if reflection {

@@ -6,22 +6,28 @@ use crate::bxdf::Reflected;
 use crate::bxdf::Refracted;
 use crate::color::Color;
 use crate::microfacet;
+use crate::microfacet::Ggx;
 use crate::microfacet::Kind;
 use crate::microfacet::Surface;
 use numbers::checked::BoolAnswer;
 use numbers::checked::FloatAnswer;
 use numbers::checked::Vec3Answer;
+use numbers::checked::check_direction;
+use numbers::checked::check_lookup;
+use numbers::checked::check_wavelength;
 use numbers::dense_spectrum;
-use numbers::dense_spectrum::DenseSpectrum;
 use numbers::float;
+use numbers::refusal::Check;
 use numbers::refusal::Refusal;
+use numbers::refusal::refuse;
 use numbers::vec2::Vec2;
 use numbers::vec3::Vec3;
 ghost use mathlib.Core.Path.{_≡_};
+ghost use Rattle.numbers.specs.Refusal.{verdict};
 ghost use Rattle.numbers.specs.Checked.{floatAnswer, boolAnswer, vec3Answer};
-ghost use Rattle.optics.specs.Surface.{microsurface, isRoughness, roughnessHolds, isSpectrum, etaHolds, isEta, allZero, kEntriesHold, kHolds};
+ghost use Rattle.optics.specs.Surface.{microsurface, isRoughness, roughnessHolds, etaHolds, isEta, allZero, kEntriesHold, kHolds};
 ghost use Rattle.optics.specs.Checked as Checked;
-ghost use Rattle.optics.specs.Checked.{verdict, surfaceAnswer, colorAnswer, reflectAnswer, refractAnswer};
+ghost use Rattle.optics.specs.Checked.{surfaceAnswer, colorAnswer, reflectAnswer, refractAnswer};
 
 // The limits of a surface's fields.
 const ROUGHNESS_MIN: f64 = 1e-5;
@@ -33,12 +39,6 @@ const ETA_MAX: f64 = 100.0;
 const K_MIN: f64 = 1e-6;
 
 const K_MAX: f64 = 100.0;
-
-// Whether a check passed, and why not.
-pub enum Check {
-    Accepted,
-    Refused(Refusal),
-}
 
 // A surface that was made; its spectra are those that were lent for the making.
 pub enum SurfaceAnswer {
@@ -76,10 +76,7 @@ fn is_roughness(a: f64) -> bool
 fn roughness_holds(a: Vec2) -> bool
     ensures { λ r. ⌜ r ≡ roughnessHolds a ⌝ }
 {
-    if is_roughness(a.x) {
-        return is_roughness(a.y);
-    }
-    false
+    is_roughness(a.x) & is_roughness(a.y)
 }
 
 fn is_eta(eta: f64) -> bool
@@ -88,19 +85,10 @@ fn is_eta(eta: f64) -> bool
     float::within(ETA_MIN, ETA_MAX, eta)
 }
 
-fn is_spectrum(values: &[f64]) -> bool
-    ensures { λ r. ⌜ r ≡ isSpectrum (now (values .entry)) ⌝ }
-{
-    values.len() == DenseSpectrum::SAMPLES
-}
-
 fn eta_holds(eta: &[f64]) -> bool
     ensures { λ r. ⌜ r ≡ etaHolds (now (eta .entry)) ⌝ }
 {
-    if is_spectrum(eta) {
-        return dense_spectrum::all_within(eta, ETA_MIN, ETA_MAX);
-    }
-    false
+    dense_spectrum::is_table(eta) & dense_spectrum::all_within(eta, ETA_MIN, ETA_MAX)
 }
 
 fn all_zero(k: &[f64]) -> bool
@@ -126,134 +114,95 @@ fn k_entries_hold(kind: Kind, k: &[f64]) -> bool
 fn k_holds(kind: Kind, k: &[f64]) -> bool
     ensures { λ r. ⌜ r ≡ kHolds kind (now (k .entry)) ⌝ }
 {
-    if is_spectrum(k) {
-        return k_entries_hold(kind, k);
-    }
-    false
+    dense_spectrum::is_table(k) & k_entries_hold(kind, k)
+}
+
+// ---- checks of one argument
+// What a surface holds beside its roughness.
+fn check_spectra(kind: Kind, eta: &[f64], k: &[f64]) -> Check
+    ensures { λ r. ⌜ verdict r ≡ Checked.checkSpectra kind (now (eta .entry)) (now (k .entry)) ⌝ }
+{
+    refuse(Refusal::Eta, eta_holds(eta)).then(refuse(Refusal::K, k_holds(kind, k)))
 }
 
 // The fields of a surface.
 pub fn check_surface(surface: Surface, eta: &[f64], k: &[f64]) -> Check
     ensures { λ r. ⌜ verdict r ≡ Checked.checkSurface (microsurface surface (now (eta .entry)) (now (k .entry))) ⌝ }
 {
-    if roughness_holds(surface.roughness) {
-        if eta_holds(eta) {
-            let kind = surface.kind;
-            if k_holds(kind, k) {
-                return Check::Accepted;
-            }
-            return Check::Refused(Refusal::K);
-        }
-        return Check::Refused(Refusal::Eta);
-    }
-    Check::Refused(Refusal::Roughness)
+    let kind = surface.kind;
+    refuse(Refusal::Roughness, roughness_holds(surface.roughness)).then(check_spectra(kind, eta, k))
 }
 
 // The index of a lone bend.
 fn check_eta(eta: f64) -> Check
     ensures { λ r. ⌜ verdict r ≡ Checked.checkEta eta ⌝ }
 {
-    if is_eta(eta) {
-        return Check::Accepted;
-    }
-    Check::Refused(Refusal::Eta)
+    refuse(Refusal::Eta, is_eta(eta))
 }
 
-pub fn check_direction(w: Vec3) -> Check
-    ensures { λ r. ⌜ verdict r ≡ Checked.checkDirection w ⌝ }
-{
-    if w.is_direction() {
-        return Check::Accepted;
-    }
-    Check::Refused(Refusal::Direction)
-}
-
-// A wavelength as in a lookup: 0 is accepted.
-pub fn check_lookup(lambda: f64) -> Check
-    ensures { λ r. ⌜ verdict r ≡ Checked.checkLookup lambda ⌝ }
-{
-    if dense_spectrum::is_lookup_wavelength(lambda) {
-        return Check::Accepted;
-    }
-    Check::Refused(Refusal::Wavelength)
-}
-
-pub fn check_lookups(lambda: Color) -> Check
+// Wavelengths as in a lookup: 0 is accepted.
+fn check_lookups(lambda: Color) -> Check
     ensures { λ r. ⌜ verdict r ≡ Checked.checkLookups lambda ⌝ }
 {
-    if dense_spectrum::is_lookup_wavelength(lambda.s0) {
-        if dense_spectrum::is_lookup_wavelength(lambda.s1) {
-            if dense_spectrum::is_lookup_wavelength(lambda.s2) {
-                if dense_spectrum::is_lookup_wavelength(lambda.s3) {
-                    return Check::Accepted;
-                }
-            }
-        }
-    }
-    Check::Refused(Refusal::Wavelength)
-}
-
-// A wavelength that is not ended.
-pub fn check_wavelength(lambda: f64) -> Check
-    ensures { λ r. ⌜ verdict r ≡ Checked.checkWavelength lambda ⌝ }
-{
-    if dense_spectrum::is_wavelength(lambda) {
-        return Check::Accepted;
-    }
-    Check::Refused(Refusal::Wavelength)
+    refuse(
+        Refusal::Wavelength,
+        dense_spectrum::is_lookup_wavelength(lambda.s0)
+            & dense_spectrum::is_lookup_wavelength(lambda.s1)
+            & dense_spectrum::is_lookup_wavelength(lambda.s2)
+            & dense_spectrum::is_lookup_wavelength(lambda.s3),
+    )
 }
 
 // A random number: from 0 to below 1.
 pub fn check_random(u: f64) -> Check
     ensures { λ r. ⌜ verdict r ≡ Checked.checkRandom u ⌝ }
 {
-    if 0.0 <= u {
-        if u < 1.0 {
-            return Check::Accepted;
-        }
-    }
-    Check::Refused(Refusal::RandomNumber)
+    refuse(Refusal::RandomNumber, (0.0 <= u) & (u < 1.0))
 }
 
 fn is_circle_pair(c: f64, s: f64) -> bool
     ensures { λ r. ⌜ r ≡ Checked.isCirclePair c s ⌝ }
 {
-    if float::within(-1.0, 1.0, c) {
-        if float::within(-1.0, 1.0, s) {
-            return float::within(0.999999999999, 1.000000000001, c * c + s * s);
-        }
-    }
-    false
+    float::within(-1.0, 1.0, c)
+        & float::within(-1.0, 1.0, s)
+        & float::within(0.999999999999, 1.000000000001, c * c + s * s)
 }
 
 // The cosine and the sine of an angle.
 pub fn check_circle_pair(c: f64, s: f64) -> Check
     ensures { λ r. ⌜ verdict r ≡ Checked.checkCirclePair c s ⌝ }
 {
-    if is_circle_pair(c, s) {
-        return Check::Accepted;
-    }
-    Check::Refused(Refusal::CirclePair)
+    refuse(Refusal::CirclePair, is_circle_pair(c, s))
 }
 
+// A density that is handed out is finite.
+fn finite_only(density: f64) -> FloatAnswer
+    ensures { λ r. ⌜ floatAnswer r ≡ Checked.finiteOnly density ⌝ }
+{
+    if let Check::Refused(why) = refuse(Refusal::NotFinite, float::is_finite(density)) {
+        return FloatAnswer::Refused(why);
+    }
+    FloatAnswer::Given(density)
+}
+
+// ---- making a surface
 // A surface from one roughness, which is raised to the least.
 pub fn make_surface(kind: Kind, roughness: f64, eta: &[f64], k: &[f64]) -> SurfaceAnswer
     ensures { λ r. ⌜ surfaceAnswer r ≡ Checked.makeSurface kind roughness (now (eta .entry)) (now (k .entry)) ⌝ }
 {
-    if float::within(0.0, 1.0, roughness) {
-        if eta_holds(eta) {
-            if k_holds(kind, k) {
-                let raised = Vec2::splat(float::max(roughness, ROUGHNESS_MIN));
-                return SurfaceAnswer::Given(Surface {
-                    kind: kind,
-                    roughness: raised,
-                });
-            }
-            return SurfaceAnswer::Refused(Refusal::K);
-        }
-        return SurfaceAnswer::Refused(Refusal::Eta);
+    let check = refuse(Refusal::Roughness, float::within(0.0, 1.0, roughness)).then(check_spectra(
+        kind,
+        eta,
+        k,
+    ));
+    if let Check::Refused(why) = check {
+        return SurfaceAnswer::Refused(why);
     }
-    SurfaceAnswer::Refused(Refusal::Roughness)
+    let raised = Vec2::splat(float::max(roughness, ROUGHNESS_MIN));
+    SurfaceAnswer::Given(Surface {
+        kind: kind,
+        roughness: raised,
+    })
 }
 
 // ---- facet terms
@@ -263,31 +212,34 @@ pub fn is_delta(surface: Surface, eta: &[f64], k: &[f64]) -> BoolAnswer
     if let Check::Refused(why) = check_surface(surface, eta, k) {
         return BoolAnswer::Refused(why);
     }
-    BoolAnswer::Given(surface.is_delta())
+    let roughness = surface.roughness;
+    let facets = Ggx {
+        roughness: roughness,
+    };
+    BoolAnswer::Given(facets.is_delta())
 }
 
 pub fn lambda(surface: Surface, eta: &[f64], k: &[f64], w: Vec3) -> FloatAnswer
     ensures { λ r. ⌜ floatAnswer r ≡ Checked.lambda (microsurface surface (now (eta .entry)) (now (k .entry))) w ⌝ }
 {
-    if let Check::Refused(why) = check_surface(surface, eta, k) {
+    let check = check_surface(surface, eta, k).then(check_direction(w));
+    if let Check::Refused(why) = check {
         return FloatAnswer::Refused(why);
     }
-    if let Check::Refused(why) = check_direction(w) {
-        return FloatAnswer::Refused(why);
-    }
-    FloatAnswer::Given(surface.lambda(w))
+    let roughness = surface.roughness;
+    let facets = Ggx {
+        roughness: roughness,
+    };
+    FloatAnswer::Given(facets.lambda(w))
 }
 
 pub fn chi_pass(surface: Surface, eta: &[f64], k: &[f64], wo: Vec3, wh: Vec3) -> BoolAnswer
     ensures { λ r. ⌜ boolAnswer r ≡ Checked.chiPass (microsurface surface (now (eta .entry)) (now (k .entry))) wo wh ⌝ }
 {
-    if let Check::Refused(why) = check_surface(surface, eta, k) {
-        return BoolAnswer::Refused(why);
-    }
-    if let Check::Refused(why) = check_direction(wo) {
-        return BoolAnswer::Refused(why);
-    }
-    if let Check::Refused(why) = check_direction(wh) {
+    let check = check_surface(surface, eta, k)
+        .then(check_direction(wo))
+        .then(check_direction(wh));
+    if let Check::Refused(why) = check {
         return BoolAnswer::Refused(why);
     }
     BoolAnswer::Given(microfacet::chi_pass(wo, wh))
@@ -296,46 +248,48 @@ pub fn chi_pass(surface: Surface, eta: &[f64], k: &[f64], wo: Vec3, wh: Vec3) ->
 pub fn g1(surface: Surface, eta: &[f64], k: &[f64], wo: Vec3, wh: Vec3) -> FloatAnswer
     ensures { λ r. ⌜ floatAnswer r ≡ Checked.g1 (microsurface surface (now (eta .entry)) (now (k .entry))) wo wh ⌝ }
 {
-    if let Check::Refused(why) = check_surface(surface, eta, k) {
+    let check = check_surface(surface, eta, k)
+        .then(check_direction(wo))
+        .then(check_direction(wh));
+    if let Check::Refused(why) = check {
         return FloatAnswer::Refused(why);
     }
-    if let Check::Refused(why) = check_direction(wo) {
-        return FloatAnswer::Refused(why);
-    }
-    if let Check::Refused(why) = check_direction(wh) {
-        return FloatAnswer::Refused(why);
-    }
-    FloatAnswer::Given(surface.g1(wo, wh))
+    let roughness = surface.roughness;
+    let facets = Ggx {
+        roughness: roughness,
+    };
+    FloatAnswer::Given(facets.g1(wo, wh))
 }
 
 pub fn g(surface: Surface, eta: &[f64], k: &[f64], wo: Vec3, wi: Vec3, wh: Vec3) -> FloatAnswer
     ensures { λ r. ⌜ floatAnswer r ≡ Checked.g (microsurface surface (now (eta .entry)) (now (k .entry))) wo wi wh ⌝ }
 {
-    if let Check::Refused(why) = check_surface(surface, eta, k) {
+    let check = check_surface(surface, eta, k)
+        .then(check_direction(wo))
+        .then(check_direction(wi))
+        .then(check_direction(wh));
+    if let Check::Refused(why) = check {
         return FloatAnswer::Refused(why);
     }
-    if let Check::Refused(why) = check_direction(wo) {
-        return FloatAnswer::Refused(why);
-    }
-    if let Check::Refused(why) = check_direction(wi) {
-        return FloatAnswer::Refused(why);
-    }
-    if let Check::Refused(why) = check_direction(wh) {
-        return FloatAnswer::Refused(why);
-    }
-    FloatAnswer::Given(surface.g(wo, wi, wh))
+    let roughness = surface.roughness;
+    let facets = Ggx {
+        roughness: roughness,
+    };
+    FloatAnswer::Given(facets.g(wo, wi, wh))
 }
 
 pub fn d(surface: Surface, eta: &[f64], k: &[f64], wh: Vec3) -> FloatAnswer
     ensures { λ r. ⌜ floatAnswer r ≡ Checked.d (microsurface surface (now (eta .entry)) (now (k .entry))) wh ⌝ }
 {
-    if let Check::Refused(why) = check_surface(surface, eta, k) {
+    let check = check_surface(surface, eta, k).then(check_direction(wh));
+    if let Check::Refused(why) = check {
         return FloatAnswer::Refused(why);
     }
-    if let Check::Refused(why) = check_direction(wh) {
-        return FloatAnswer::Refused(why);
-    }
-    FloatAnswer::Given(surface.d(wh))
+    let roughness = surface.roughness;
+    let facets = Ggx {
+        roughness: roughness,
+    };
+    FloatAnswer::Given(facets.d(wh))
 }
 
 // Any floats: it refuses only for its surface.
@@ -352,7 +306,11 @@ pub fn disney_diffuse(
     if let Check::Refused(why) = check_surface(surface, eta, k) {
         return FloatAnswer::Refused(why);
     }
-    FloatAnswer::Given(surface.disney_diffuse(cos_theta_wo, cos_theta_wi, cos_theta_wh))
+    let roughness = surface.roughness;
+    let facets = Ggx {
+        roughness: roughness,
+    };
+    FloatAnswer::Given(facets.disney_diffuse(cos_theta_wo, cos_theta_wi, cos_theta_wh))
 }
 
 // ---- Fresnel
@@ -366,16 +324,11 @@ pub fn f_at(
 ) -> FloatAnswer
     ensures { λ r. ⌜ floatAnswer r ≡ Checked.fAt (microsurface surface (now (eta .entry)) (now (k .entry))) wo wh lambda ⌝ }
 {
-    if let Check::Refused(why) = check_surface(surface, eta, k) {
-        return FloatAnswer::Refused(why);
-    }
-    if let Check::Refused(why) = check_direction(wo) {
-        return FloatAnswer::Refused(why);
-    }
-    if let Check::Refused(why) = check_direction(wh) {
-        return FloatAnswer::Refused(why);
-    }
-    if let Check::Refused(why) = check_lookup(lambda) {
+    let check = check_surface(surface, eta, k)
+        .then(check_direction(wo))
+        .then(check_direction(wh))
+        .then(check_lookup(lambda));
+    if let Check::Refused(why) = check {
         return FloatAnswer::Refused(why);
     }
     let index = microfacet::eta_at(eta, lambda);
@@ -386,16 +339,11 @@ pub fn f_at(
 pub fn f(surface: Surface, eta: &[f64], k: &[f64], wo: Vec3, wh: Vec3, lambda: Color) -> ColorAnswer
     ensures { λ r. ⌜ colorAnswer r ≡ Checked.f (microsurface surface (now (eta .entry)) (now (k .entry))) wo wh lambda ⌝ }
 {
-    if let Check::Refused(why) = check_surface(surface, eta, k) {
-        return ColorAnswer::Refused(why);
-    }
-    if let Check::Refused(why) = check_direction(wo) {
-        return ColorAnswer::Refused(why);
-    }
-    if let Check::Refused(why) = check_direction(wh) {
-        return ColorAnswer::Refused(why);
-    }
-    if let Check::Refused(why) = check_lookups(lambda) {
+    let check = check_surface(surface, eta, k)
+        .then(check_direction(wo))
+        .then(check_direction(wh))
+        .then(check_lookups(lambda));
+    if let Check::Refused(why) = check {
         return ColorAnswer::Refused(why);
     }
     ColorAnswer::Given(microfacet::f(eta, k, wo, wh, lambda))
@@ -413,28 +361,25 @@ pub fn sample_normal(
 ) -> Vec3Answer
     ensures { λ r. ⌜ vec3Answer r ≡ Checked.sampleNormal (microsurface surface (now (eta .entry)) (now (k .entry))) wo disk c s ⌝ }
 {
-    if let Check::Refused(why) = check_surface(surface, eta, k) {
+    let check = check_surface(surface, eta, k)
+        .then(check_direction(wo))
+        .then(check_random(disk))
+        .then(check_circle_pair(c, s));
+    if let Check::Refused(why) = check {
         return Vec3Answer::Refused(why);
     }
-    if let Check::Refused(why) = check_direction(wo) {
-        return Vec3Answer::Refused(why);
-    }
-    if let Check::Refused(why) = check_random(disk) {
-        return Vec3Answer::Refused(why);
-    }
-    if let Check::Refused(why) = check_circle_pair(c, s) {
-        return Vec3Answer::Refused(why);
-    }
-    Vec3Answer::Given(surface.sample_normal(wo, disk, c, s))
+    let roughness = surface.roughness;
+    let facets = Ggx {
+        roughness: roughness,
+    };
+    Vec3Answer::Given(facets.sample_normal(wo, disk, c, s))
 }
 
 pub fn reflect(wo: Vec3, n: Vec3) -> ReflectAnswer
     ensures { λ r. ⌜ reflectAnswer r ≡ Checked.reflect wo n ⌝ }
 {
-    if let Check::Refused(why) = check_direction(wo) {
-        return ReflectAnswer::Refused(why);
-    }
-    if let Check::Refused(why) = check_direction(n) {
+    let check = check_direction(wo).then(check_direction(n));
+    if let Check::Refused(why) = check {
         return ReflectAnswer::Refused(why);
     }
     match bxdf::reflect(wo, n) {
@@ -446,13 +391,10 @@ pub fn reflect(wo: Vec3, n: Vec3) -> ReflectAnswer
 pub fn refract(eta: f64, wo: Vec3, n: Vec3) -> RefractAnswer
     ensures { λ r. ⌜ refractAnswer r ≡ Checked.refract eta wo n ⌝ }
 {
-    if let Check::Refused(why) = check_eta(eta) {
-        return RefractAnswer::Refused(why);
-    }
-    if let Check::Refused(why) = check_direction(wo) {
-        return RefractAnswer::Refused(why);
-    }
-    if let Check::Refused(why) = check_direction(n) {
+    let check = check_eta(eta)
+        .then(check_direction(wo))
+        .then(check_direction(n));
+    if let Check::Refused(why) = check {
         return RefractAnswer::Refused(why);
     }
     match bxdf::refract(eta, wo, n) {
@@ -475,23 +417,19 @@ pub fn pdf(
 ) -> FloatAnswer
     ensures { λ r. ⌜ floatAnswer r ≡ Checked.pdf (microsurface surface (now (eta .entry)) (now (k .entry))) wo wi reflection lambda ⌝ }
 {
-    if let Check::Refused(why) = check_surface(surface, eta, k) {
-        return FloatAnswer::Refused(why);
-    }
-    if let Check::Refused(why) = check_direction(wo) {
-        return FloatAnswer::Refused(why);
-    }
-    if let Check::Refused(why) = check_direction(wi) {
-        return FloatAnswer::Refused(why);
-    }
-    if let Check::Refused(why) = check_wavelength(lambda) {
+    let check = check_surface(surface, eta, k)
+        .then(check_direction(wo))
+        .then(check_direction(wi))
+        .then(check_wavelength(lambda));
+    if let Check::Refused(why) = check {
         return FloatAnswer::Refused(why);
     }
     let index = microfacet::eta_at(eta, lambda);
     let absorption = microfacet::k_at(k, lambda);
-    let density = bxdf::pdf(surface, wo, wi, reflection, index, absorption);
-    if float::is_finite(density) {
-        return FloatAnswer::Given(density);
-    }
-    FloatAnswer::Refused(Refusal::NotFinite)
+    let kind = surface.kind;
+    let roughness = surface.roughness;
+    let facets = Ggx {
+        roughness: roughness,
+    };
+    finite_only(bxdf::pdf(kind, facets, wo, wi, reflection, index, absorption))
 }

@@ -10,7 +10,10 @@ use numbers::square_root::sqrt_or_zero;
 use numbers::vec2::Vec2;
 use numbers::vec3::Vec3;
 ghost use mathlib.Core.Path.{_≡_};
-ghost use Rattle.optics.specs.Facets.{isDelta, azimuth, lambda, lambdaFrom, chiPassAt, chiPass, g1At, g1, g, gOverG1With, gOverG1, d, sampleNormalPdfAt, sampleNormalPdf, fSchlick, disneyDiffuse};
+ghost use mathlib.Core.Bool.{cond};
+ghost use Rattle.numbers.specs.Float.{f0};
+ghost use Rattle.optics.specs.Facets.{isDelta, lambda, chiPass, g1, g, gOverG1, d, sampleNormalPdf, fSchlick, disneyDiffuse};
+ghost use Rattle.optics.specs.SharedTerms.{azimuth, chiPassAt, g1At, gOverG1At, sampleNormalPdfAt};
 ghost use Rattle.optics.specs.Fresnel.{frFacing, frReal, complexCosI, rPar, rPer, frComplexFacing, frComplex, fresnel, fAt, f};
 ghost use Rattle.optics.specs.Surface.{etaAt, kAt, constantEta};
 ghost use Rattle.optics.specs.Sampler.{viewed, tangent, onHemisphere, combined, unstretched, sampleNormal};
@@ -29,13 +32,6 @@ pub struct Surface {
     pub kind: Kind,
     // Roughness of the surface (α) along x and y
     pub roughness: Vec2,
-}
-
-// What is known of Λ(wo): two roots, so that who needs it twice computes it once and hands it on. It is
-// computed where it is needed if it isn't known.
-pub enum Masking {
-    Known(f64),
-    Unknown,
 }
 
 // Whether the refraction index is the same at every wavelength.
@@ -77,7 +73,12 @@ pub fn f_schlick(f0: f64, f90: f64, cos_theta: f64) -> f64
     f0 + (f90 - f0) * float::powi5(1.0 - cos_theta)
 }
 
-impl Surface {
+// The facets' distribution, GGX's: the surface's roughness, and nothing that has to be checked anew.
+pub struct Ggx {
+    pub roughness: Vec2,
+}
+
+impl Ggx {
     // Does the material have delta scattering distribution?
     pub fn is_delta(self) -> bool
         ensures { λ r. ⌜ r ≡ isDelta (self .roughness) ⌝ }
@@ -142,14 +143,15 @@ impl Surface {
         (sqrt_or_zero(1.0 + alpha2 * tan2_theta) - 1.0) / 2.0
     }
 
-    // Λ(wo) by what is known of it.
-    fn lambda_from(self, masking: Masking, wo: Vec3) -> f64
-        ensures { λ r. ⌜ r ≡ lambdaFrom masking (self .roughness) wo ⌝ }
+    // Λ(wo), for who hands it on: 0 where the surface scatters into one direction, since nothing reads it
+    // there.
+    pub fn lambda_unless(self, one_direction: bool, wo: Vec3) -> f64
+        ensures { λ r. ⌜ r ≡ cond «one_direction» f0 (lambda (self .roughness) wo) ⌝ }
     {
-        match masking {
-            Masking::Known(lambda_wo) => lambda_wo,
-            Masking::Unknown => self.lambda(wo),
+        if one_direction {
+            return 0.0;
         }
+        self.lambda(wo)
     }
 
     // Shadow-masking term. Used to make sure that only microfacets that are visible from `wo`
@@ -167,15 +169,8 @@ impl Surface {
     pub fn g1(self, wo: Vec3, wh: Vec3) -> f64
         ensures { λ r. ⌜ r ≡ g1 (self .roughness) wo wh ⌝ }
     {
-        self.g1_at(Masking::Unknown, wo.dot(wh), wo, wh)
-    }
-
-    // `g1` with what is known of Λ(wo), and `wo_dot_wh` at hand.
-    fn g1_at(self, masking: Masking, wo_dot_wh: f64, wo: Vec3, wh: Vec3) -> f64
-        ensures { λ r. ⌜ r ≡ g1At (lambdaFrom masking (self .roughness) wo) «wo_dot_wh» wo wh ⌝ }
-    {
-        if chi_pass_at(wo_dot_wh, wo, wh) {
-            return 1.0 / (1.0 + self.lambda_from(masking, wo));
+        if chi_pass(wo, wh) {
+            return 1.0 / (1.0 + self.lambda(wo));
         }
         0.0
     }
@@ -184,15 +179,15 @@ impl Surface {
     pub fn g_over_g1(self, wo: Vec3, wi: Vec3, wh: Vec3) -> f64
         ensures { λ r. ⌜ r ≡ gOverG1 (self .roughness) wo wi wh ⌝ }
     {
-        self.g_over_g1_with(Masking::Unknown, wo, wi, wh)
+        self.g_over_g1_at(self.lambda(wo), wo.dot(wh), wo, wi, wh)
     }
 
-    // `g_over_g1` with what is known of Λ(wo).
-    pub fn g_over_g1_with(self, masking: Masking, wo: Vec3, wi: Vec3, wh: Vec3) -> f64
-        ensures { λ r. ⌜ r ≡ gOverG1With (self .roughness) (lambdaFrom masking (self .roughness) wo) wo wi wh ⌝ }
+    // `g_over_g1` with Λ(wo) and `wo_dot_wh` at hand.
+    pub fn g_over_g1_at(self, lambda_wo: f64, wo_dot_wh: f64, wo: Vec3, wi: Vec3, wh: Vec3) -> f64
+        ensures { λ r. ⌜ r ≡ gOverG1At (self .roughness) «lambda_wo» «wo_dot_wh» wo wi wh ⌝ }
     {
-        if chi_pass(wo, wh) {
-            let seen = 1.0 + self.lambda_from(masking, wo);
+        if chi_pass_at(wo_dot_wh, wo, wh) {
+            let seen = 1.0 + lambda_wo;
             let g1 = 1.0 / seen;
             if g1 == 0.0 {
                 return 0.0;
@@ -206,14 +201,14 @@ impl Surface {
     pub fn sample_normal_pdf(self, wh: Vec3, wo: Vec3) -> f64
         ensures { λ r. ⌜ r ≡ sampleNormalPdf (self .roughness) wh wo ⌝ }
     {
-        self.sample_normal_pdf_at(Masking::Unknown, wo.dot(wh), wh, wo)
+        self.sample_normal_pdf_at(self.lambda(wo), wo.dot(wh), wh, wo)
     }
 
-    // `sample_normal_pdf` with what is known of Λ(wo), and `wo_dot_wh` at hand.
-    pub fn sample_normal_pdf_at(self, masking: Masking, wo_dot_wh: f64, wh: Vec3, wo: Vec3) -> f64
-        ensures { λ r. ⌜ r ≡ sampleNormalPdfAt (self .roughness) (lambdaFrom masking (self .roughness) wo) «wo_dot_wh» wh wo ⌝ }
+    // `sample_normal_pdf` with Λ(wo) and `wo_dot_wh` at hand.
+    pub fn sample_normal_pdf_at(self, lambda_wo: f64, wo_dot_wh: f64, wh: Vec3, wo: Vec3) -> f64
+        ensures { λ r. ⌜ r ≡ sampleNormalPdfAt (self .roughness) «lambda_wo» «wo_dot_wh» wh wo ⌝ }
     {
-        let g1 = self.g1_at(masking, wo_dot_wh, wo, wh);
+        let g1 = g1_at(lambda_wo, wo_dot_wh, wo, wh);
         let d = self.d(wh);
         float::max(g1 * d * float::abs(wo_dot_wh) / float::abs(wo.z), 0.0)
     }
@@ -311,6 +306,16 @@ fn chi_pass_at(wo_dot_wh: f64, wo: Vec3, wh: Vec3) -> bool
     // signum to fix refraction
     let chi = float::signum(wh.z) * wo_dot_wh * wo.z;
     chi > EPSILON
+}
+
+// `g1` with Λ(wo) and `wo_dot_wh` at hand.
+fn g1_at(lambda_wo: f64, wo_dot_wh: f64, wo: Vec3, wh: Vec3) -> f64
+    ensures { λ r. ⌜ r ≡ g1At «lambda_wo» «wo_dot_wh» wo wh ⌝ }
+{
+    if chi_pass_at(wo_dot_wh, wo, wh) {
+        return 1.0 / (1.0 + lambda_wo);
+    }
+    0.0
 }
 
 // Fresnel term with the full equations, at four wavelengths

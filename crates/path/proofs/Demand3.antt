@@ -16,10 +16,10 @@ use Rattle.numbers.specs.declared.vec3.Vec3.{Vec3}
 use Rattle.numbers.proofs.Units.{U-O}
 use Rattle.numbers.proofs.NonNegative.{Ext, share-of, ext-le}
 use Rattle.optics.specs.Surface.{Microsurface, constantEta, etaAt, kAt}
-use Rattle.optics.specs.Bxdf.{Scattered, scattered, totally}
+use Rattle.optics.specs.Bxdf.{Scattered, scattered, totally, rest}
 use Rattle.optics.specs.Bxdf as Bxdf
 use Rattle.optics.specs.Density.{pdf}
-use Rattle.optics.specs.Checked.{Verdict, accepted, rejected}
+use Rattle.numbers.specs.Refusal.{Verdict, accepted, rejected}
 use Rattle.optics.specs.declared.color.Color.{Color}
 use Rattle.optics.specs.declared.microfacet.Kind.{Kind}
 use Rattle.optics.specs.declared.microfacet.Kind.the-variants.{Metal, Glass}
@@ -28,7 +28,8 @@ use Rattle.path.specs.declared.records.Path.{Path}
 use Rattle.path.specs.declared.records.Bounce.{Bounce}
 use Rattle.path.specs.declared.records.Bounced.{Bounced}
 use Rattle.path.specs.declared.records.Density.the-variants as D
-use Rattle.path.specs.Path.{path, ones, all4, leading, terminate, isFilter, weighed}
+use Rattle.optics.specs.Color.{all4}
+use Rattle.path.specs.Path.{path, ones, leading, terminate, isFilter, weighed}
 use Rattle.path.specs.Bounce.{advanced, checkBounce, leftOnGlass, leftOn, lambdaOn, localWo, facet, fresnelAt, share, scatter, weightFrom, weights}
 use Rattle.path.specs.Reckoning.{unlessRefused, reckon}
 use Rattle.path.specs.Answer.{Outcome, refusal, lost, reflected, passed, outcome, densityOf, density, sharesOn, shares, branchOf, worked, onSurface, answered, bounce, pathOf}
@@ -136,9 +137,9 @@ module _ (p : Path) (m : Microsurface) (b : Bounce) (r : Ready p) (h : Given p m
       (l .0, record { lambda = lambda-fits m (p .lambda) (r .lambda); power = l .1 })
 
   shares-on : (kind : Kind) → m .kind ≡ kind → SharesHold kind (sharesOn kind (share m (lambdaOn m (p .lambda)) b))
-  unfolding sharesOn
+  unfolding sharesOn rest
   shares-on Metal e = tt
-  shares-on Glass e = let s = shares-hold p m b h e in ((s .first .1, s .first .2), (s .second .1, s .second .2), s .whole)
+  shares-on Glass e = let s = shares-hold p m b h e in (refl, (s .first .1, s .first .2), (s .second .1, s .second .2), s .whole)
 
   shares-of : SharesHold (m .kind) (shares m (lambdaOn m (p .lambda)) b)
   unfolding shares

@@ -4,4 +4,6 @@ pub mod Checks
 pub mod Weights
 pub mod Sampled
 pub mod Demand3
+pub mod Answers
 pub mod Samples
+mod ManyBounces

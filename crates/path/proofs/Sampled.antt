@@ -17,7 +17,7 @@ use Rattle.numbers.specs.declared.vec3.Vec3.{Vec3}
 use Rattle.numbers.proofs.Direction.{Direction}
 use Rattle.numbers.proofs.Interpolation.{AllFit, Index}
 use Rattle.optics.specs.Surface.{Microsurface, constantEta, etaAt, kAt, etaHolds, kHolds}
-use Rattle.optics.specs.Facets.{isDelta, lambda, g1With, gWith, gOverG1With, gOverG1}
+use Rattle.optics.specs.Facets.{isDelta, g1, g, gOverG1}
 use Rattle.optics.specs.Fresnel.{fAt}
 use Rattle.optics.specs.Sampler.{sampleNormal}
 use Rattle.optics.specs.Bxdf.{Scattered, scattered, lost, totally, conductorNormal, conductorFrom, isSmooth, dielectricNormal, dielectricFrom}
@@ -27,13 +27,14 @@ use Rattle.optics.specs.declared.microfacet.Kind.{Kind}
 use Rattle.optics.specs.declared.microfacet.Kind.the-variants.{Metal, Glass}
 use Rattle.optics.proofs.Sizes.{Span, widen3}
 use Rattle.optics.proofs.SampledNormal.{Rough, Disk, Local, local-of, local-span, Unitary, sampled-normal, z-unitary}
+use Rattle.optics.proofs.Fresnel.{reach}
 use Rattle.optics.proofs.Glass.{Shares, glass-shares, glass-never-total, glass-direction, metal-outcome, Outcome}
 use Rattle.optics.proofs.Shadowing.{weight-share}
 use Rattle.optics.proofs.Spectra.{eta-index, glass-k-zero}
 use Rattle.path.specs.declared.records.Path.{Path}
 use Rattle.path.specs.declared.records.Bounce.{Bounce}
 use Rattle.path.specs.Path.{leading, terminate, isPathLambda}
-use Rattle.path.specs.Bounce.{leftOnGlass, leftOn, lambdaOn, localWo, leadingEta, facetOf, facet, fresnelAt, share, scatterOn, scatter, oneDirection, shadowing}
+use Rattle.path.specs.Bounce.{leftOnGlass, leftOn, lambdaOn, localWo, leadingEta, facetOf, facet, fresnelAt, share, scatterOn, scatter, oneDirection, shadowing, shadowingOn}
 use Rattle.path.specs.Demand3.{F64, Vec3F64, ColorF64, AllF64, Step, StepF64}
 use Rattle.path.proofs.Checks.{Accepted}
 use Rattle.path.proofs.Weights.{Weight, whole}
@@ -156,37 +157,36 @@ module _ (p : Path) (m : Microsurface) (b : Bounce) (h : Given p m b) where
   never-total t = never-on (m .kind) refl t
 
   -- ---- a sampled direction is finite
-  span-on : (kind : Kind) → m .kind ≡ kind → (wi : Vec3) (reflection : Bool) → scatterOn kind m (lambdaOn m (p .lambda)) b ≡ scattered wi reflection → Span 4294967296 wi
+  span-on : (kind : Kind) → m .kind ≡ kind → (wi : Vec3) (reflection : Bool) → scatterOn kind m (lambdaOn m (p .lambda)) b ≡ scattered wi reflection → Span reach wi
   unfolding scatterOn share fresnelAt leadingEta
   span-on Metal e wi reflection t = subst (λ (s : Scattered). Outcome s) t metal-scattered
   span-on Glass e wi reflection t =
       let lambda = lambdaOn m (p .lambda) in
       glass-direction (leadingEta m lambda) (kAt (m .k) (leading lambda)) (b .u) (localWo b) (facet m lambda b) wi reflection index (no-k e) below-one local-wo facet-unitary t
 
-  pub direction-span : (wi : Vec3) (reflection : Bool) → scatter m (lambdaOn m (p .lambda)) b ≡ scattered wi reflection → Span 4294967296 wi
+  pub direction-span : (wi : Vec3) (reflection : Bool) → scatter m (lambdaOn m (p .lambda)) b ≡ scattered wi reflection → Span reach wi
   unfolding scatter
   direction-span wi reflection t = span-on (m .kind) refl wi reflection t
 
   -- ---- the shadowing q
   q-fits : (wi : Vec3) → T (fits binary64 (gOverG1 (m .roughness) (localWo b) wi (facet m (lambdaOn m (p .lambda)) b)))
-  unfolding gOverG1 gOverG1With fits
+  unfolding gOverG1 fits
   q-fits wi =
       let wh = facet m (lambdaOn m (p .lambda)) b in
-      let lambdaWo = lambda (m .roughness) (localWo b) in
-      let first = g1With lambdaWo (localWo b) wh in
-      let both = gWith (m .roughness) lambdaWo (localWo b) wi wh in
+      let first = g1 (m .roughness) (localWo b) wh in
+      let both = g (m .roughness) (localWo b) wi wh in
       cond-fits binary64 (eq first f0) f0 (both ⊘ first) tt (div-fits binary64 both first)
 
   pub shadowing-weight : (wi : Vec3) (reflection : Bool) → scatter m (lambdaOn m (p .lambda)) b ≡ scattered wi reflection
-      → Weight (shadowing m (lambdaOn m (p .lambda)) b wi)
-  unfolding shadowing
+      → Weight (shadowingOn m (lambdaOn m (p .lambda)) b wi)
+  unfolding shadowingOn shadowing
   shadowing-weight wi reflection t = go (oneDirection (m .kind) m (lambdaOn m (p .lambda)))
     where
       q : Float
       q = gOverG1 (m .roughness) (localWo b) wi (facet m (lambdaOn m (p .lambda)) b)
 
       s : T (finite q) × T (le f0 q) × T (le q f1)
-      s = weight-share (m .roughness) (localWo b) wi (facet m (lambdaOn m (p .lambda)) b) rough (widen3 8 4294967296 (localWo b) (lit≤ tt) (local-span (localWo b) local-wo)) (direction-span wi reflection t)
+      s = weight-share (m .roughness) (localWo b) wi (facet m (lambdaOn m (p .lambda)) b) rough (widen3 8 reach (localWo b) (lit≤ tt) (local-span (localWo b) local-wo)) (direction-span wi reflection t)
 
       go : (one : Bool) → Weight (cond one f1 q)
       go true = whole

@@ -15,23 +15,25 @@ use Rattle.numbers.specs.Vec3.{vec3, Z, dot, floatMul, divFloat, mulFloat, nega
 use Rattle.numbers.specs.Vec3 as V3
 use Rattle.numbers.specs.Onb.{slope, skew, basis, toLocal, toWorld}
 use Rattle.numbers.specs.SphericalUtils.{cosTheta, sameHemisphere}
-use Rattle.numbers.specs.DenseSpectrum.{ceiling, upperPoint, upperLambda, upperWeight, interpolate, sampleOneAt, sampleOne, every, isConstant, allWithin, isWavelength, isLookupWavelength}
+use Rattle.numbers.specs.DenseSpectrum.{ceiling, upperPoint, upperLambda, upperWeight, interpolate, sampleOneAt, sampleOne, every, isConstant, allWithin, isWavelength, isLookupWavelength, isTable}
 use Rattle.numbers.specs.declared.vec2.Vec2.{Vec2}
 use Rattle.numbers.specs.declared.vec3.Vec3.{Vec3}
 use Rattle.numbers.proofs.Samples as Numbers
-use Rattle.optics.specs.Surface.{Microsurface, roughnessMin, isRoughness, roughnessHolds, isSpectrum, etaMin, etaMax, etaHolds, kMin, kMax, allZero, kEntriesHold, kHolds, etaAt, kAt, constantEta, surface}
+use Rattle.optics.specs.Surface.{Microsurface, roughnessMin, isRoughness, roughnessHolds, etaMin, etaMax, etaHolds, kMin, kMax, allZero, kEntriesHold, kHolds, etaAt, kAt, constantEta, surface}
 use Rattle.optics.specs.Facets.{half, isDelta}
 use Rattle.optics.specs.Fresnel.{sin2I, isTotal, cosI, fresnel, fAt}
 use Rattle.optics.specs.Bxdf.{scattered, direction, mirrored, reflect, bent, acrossOnly, refractFacing, refract, branch, conductorNormal, conductorFrom, isSmooth, dielectricNormal, rest, reflects, dielectricFrom}
-use Rattle.optics.specs.Density.{onZSide, atZ, conductorHalf, conductorPdfWith, conductorPdf, etaRatio, dielectricHalf, isDiscarded, reflectedPdf, passedPdf, dielectricAt, dielectricPdfWith, dielectricPdf, pdfOf, pdf}
-use Rattle.optics.specs.Checked.{accepted, refuse, checkSurface, checkDirection, isRandom, checkRandom, isCirclePair, checkCirclePair}
+use Rattle.optics.specs.Density.{onZSide, atZ, conductorHalf, conductorPdfFrom, conductorPdf, etaRatio, dielectricHalf, isDiscarded, reflectedPdf, passedPdf, dielectricPdfFrom, dielectricPdf, pdfOf, pdf}
+use Rattle.numbers.specs.Refusal.{_then_, accepted, refuse}
+use Rattle.numbers.specs.Checked.{checkDirection}
+use Rattle.optics.specs.Checked.{checkSpectra, checkSurface, isRandom, checkRandom, isCirclePair, checkCirclePair}
 use Rattle.optics.specs.Samples.{quarter, three-quarters}
 use Rattle.optics.specs.declared.microfacet.Kind.the-variants.{Metal, Glass}
 use Rattle.optics.proofs.Samples as Optics
 use Rattle.path.specs.declared.records.Density.the-variants as D
 use Rattle.path.specs.declared.records.Shares.the-variants as S
 use Rattle.path.specs.Path.{path, leading, isPathLambda, isPower, isFilter, weighed}
-use Rattle.path.specs.Bounce.{advanced, _then_, checkBounce, leftOnGlass, leftOn, lambdaOn, localWo, leadingEta, facetOf, facet, fresnelAt, share, scatterOn, scatter, oneDirection, shadowing, metalShare, filtered, weightFrom, weights}
+use Rattle.path.specs.Bounce.{advanced, checkBounce, checkRest, leftOnGlass, leftOn, lambdaOn, localWo, leadingEta, facetOf, facet, fresnelAt, share, scatterOn, scatter, oneDirection, shadowing, shadowingOn, metalShare, metalFilter, filter, weight, weightFrom, weights}
 use Rattle.path.specs.Answer.{reflected, passed, densityOf, density, sharesOn, shares, branchOf, worked, onSurface, answered, bounce}
 use Rattle.path.specs.Samples.{all, grid, constant, deltaMetal, deltaGlass, along, Samples, AllSamples}
 
@@ -86,8 +88,8 @@ smooth-delta : isDelta smooth ≡ true
 unfolding isDelta splat max roughnessMin decimal isNan lt add div
 smooth-delta = refl
 
-length-holds : (x : Float) → isSpectrum (constant x) ≡ true
-unfolding isSpectrum
+length-holds : (x : Float) → isTable (constant x) ≡ true
+unfolding isTable
 length-holds x = refl
 
 eta-holds : (x : Float) → within etaMin etaMax x ≡ true → etaHolds (constant x) ≡ true
@@ -105,7 +107,7 @@ glass-k-holds = rw (length-holds f0, every-replicate (within f0 f0) f0 refl 95)
 surface-holds :
     (m : Microsurface) → roughnessHolds (m .roughness) ≡ true → etaHolds (m .eta) ≡ true → kHolds (m .kind) (m .k) ≡ true →
     checkSurface m ≡ accepted
-unfolding checkSurface
+unfolding checkSurface checkSpectra _then_ refuse
 surface-holds m r e k = rw (r, e, k)
 
 disk-holds : isRandom f0 ≡ true
@@ -116,7 +118,7 @@ disk-holds = refl
 checks :
     (m : Microsurface) (x u : Float) → checkSurface m ≡ accepted → isPower x ≡ true → isRandom u ≡ true →
     checkBounce (path grid (all x)) m (along u) ≡ accepted
-unfolding checkBounce _then_ refuse isPathLambda isWavelength isLookupWavelength isFilter checkDirection isDirection lengthSquared dot checkRandom checkCirclePair isCirclePair decimal within add mul lt le eq
+unfolding checkBounce checkRest _then_ refuse isPathLambda isWavelength isLookupWavelength isFilter checkDirection isDirection lengthSquared dot checkRandom checkCirclePair isCirclePair decimal within add mul lt le eq
 checks m x u s p r = rw (s, p, r, disk-holds)
 
 -- ---- metal
@@ -137,7 +139,7 @@ unfolding metalShare isNan le mul
 metal-weight-half = refl
 
 metal-density : (a : Vec2) → isDelta a ≡ true → conductorPdf a Z Z' ≡ f1
-unfolding conductorPdf conductorPdfWith sameHemisphere cosTheta conductorHalf onZSide atZ normalize length lengthSquared dot divFloat negate V3.add epsilon decimal max isNan squareRoot add sub mul div neg lt
+unfolding conductorPdf conductorPdfFrom sameHemisphere cosTheta conductorHalf onZSide atZ normalize length lengthSquared dot divFloat negate V3.add epsilon decimal max isNan squareRoot add sub mul div neg lt
 metal-density a h = rw h
 
 module _ (a : Vec2) (eta k : List Float) (delta : isDelta a ≡ true) (eta-1 : Reads eta f1) (k-2 : Reads k f2) where
@@ -153,14 +155,14 @@ module _ (a : Vec2) (eta k : List Float) (delta : isDelta a ≡ true) (eta-1 : R
   unfolding scatter scatterOn conductorFrom neg
   metal-scatter u = rw (local u, delta)
 
-  metal-shadowing : (u : Float) (wi : Vec3) → shadowing (metal a eta k) grid (along u) wi ≡ f1
-  unfolding shadowing oneDirection
+  metal-shadowing : (u : Float) (wi : Vec3) → shadowingOn (metal a eta k) grid (along u) wi ≡ f1
+  unfolding shadowingOn shadowing oneDirection
   metal-shadowing u wi = rw delta
 
   metal-weight :
       (u l : Float) → eq l f0 ≡ false → etaAt eta l ≡ f1 → kAt k l ≡ f2 →
       weightFrom (scattered Z' true) (metal a eta k) grid (along u) l f1 f1 ≡ half
-  unfolding weightFrom filtered
+  unfolding weightFrom weight filter metalFilter
   metal-weight u l z p q = rw (z, metal-fresnel u l p q, metal-shadowing u Z', metal-weight-half)
 
   metal-weights : (u : Float) → weights (metal a eta k) grid (along u) ≡ all half
@@ -232,11 +234,11 @@ module _ (a : Vec2) (delta : isDelta a ≡ true) where
   smooth-3 = delta
 
   reflected-density : dielectricPdf a f3 f0 true Z Z ≡ quarter
-  unfolding dielectricPdf dielectricPdfWith etaRatio dielectricHalf onZSide dielectricAt isDiscarded reflectedPdf atZ rest fAt normalize length lengthSquared dot divFloat mulFloat negate V3.add cosTheta epsilon decimal max isNan squareRoot add sub mul div neg lt eq
+  unfolding dielectricPdf dielectricPdfFrom etaRatio dielectricHalf onZSide isDiscarded reflectedPdf atZ rest fAt normalize length lengthSquared dot divFloat mulFloat negate V3.add cosTheta epsilon decimal max isNan squareRoot add sub mul div neg lt eq
   reflected-density = rw (fresnel-3, smooth-3)
 
   passed-density : dielectricPdf a f3 f0 false Z -Z ≡ three-quarters
-  unfolding dielectricPdf dielectricPdfWith etaRatio dielectricHalf onZSide dielectricAt isDiscarded passedPdf atZ rest fAt normalize length lengthSquared dot divFloat mulFloat negate V3.add cosTheta epsilon decimal max isNan squareRoot add sub mul div neg lt eq
+  unfolding dielectricPdf dielectricPdfFrom etaRatio dielectricHalf onZSide isDiscarded passedPdf atZ rest fAt normalize length lengthSquared dot divFloat mulFloat negate V3.add cosTheta epsilon decimal max isNan squareRoot add sub mul div neg lt eq
   passed-density = rw (fresnel-3, smooth-3)
 
 module _ (a : Vec2) (eta k : List Float) (delta : isDelta a ≡ true) (same : constantEta eta ≡ true) (eta-3 : Reads eta f3) (k-0 : Reads k f0) where
@@ -266,14 +268,14 @@ module _ (a : Vec2) (eta k : List Float) (delta : isDelta a ≡ true) (same : co
   unfolding scatter scatterOn dielectricFrom branch
   glass-passes = rw (glass-share quarter, passes-at, glass-eta, local quarter, glass-facet quarter, refract-Z)
 
-  glass-shadowing : (u : Float) (wi : Vec3) → shadowing (glass a eta k) grid (along u) wi ≡ f1
-  unfolding shadowing oneDirection
+  glass-shadowing : (u : Float) (wi : Vec3) → shadowingOn (glass a eta k) grid (along u) wi ≡ f1
+  unfolding shadowingOn shadowing oneDirection
   glass-shadowing u wi = rw (glass-eta, smooth-3 a delta)
 
   glass-weight :
       (u l : Float) (wi : Vec3) (r : Bool) → eq l f0 ≡ false →
       weightFrom (scattered wi r) (glass a eta k) grid (along u) l f1 f1 ≡ f1
-  unfolding weightFrom filtered mul
+  unfolding weightFrom weight filter mul
   glass-weight u l wi true z = rw (z, glass-shadowing u wi)
   glass-weight u l wi false z = rw (z, glass-shadowing u wi)
 

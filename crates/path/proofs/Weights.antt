@@ -11,7 +11,7 @@ use Rattle.numbers.specs.DenseSpectrum.{terminated}
 use Rattle.numbers.specs.declared.vec3.Vec3.{Vec3}
 use Rattle.numbers.proofs.Units.{is-finite}
 use Rattle.numbers.proofs.NonNegative.{share-of}
-use Rattle.numbers.proofs.Shares.{weight}
+use Rattle.numbers.proofs.Shares as Shares
 use Rattle.numbers.proofs.Monotone.{le-trans-fits}
 use Rattle.optics.specs.Surface.{Microsurface, etaAt, kAt}
 use Rattle.optics.specs.Bxdf.{Scattered, scattered, lost, totally}
@@ -22,7 +22,7 @@ use Rattle.optics.proofs.Glass.{share-fits}
 use Rattle.optics.proofs.FresnelSign.{fresnel-not-below}
 use Rattle.optics.proofs.Signs.{NotNegative, at-most-one}
 use Rattle.path.specs.declared.records.Bounce.{Bounce}
-use Rattle.path.specs.Bounce.{localWo, facet, fresnelAt, shadowing, metalShare, filtered, weightFrom}
+use Rattle.path.specs.Bounce.{localWo, facet, fresnelAt, shadowingOn, metalShare, metalFilter, filter, weight, weightFrom}
 
 pub record Weight (x : Float) : Type 0 where
   pub fits-x : T (fits binary64 x)
@@ -43,7 +43,7 @@ finite-of x w = let s = share-of x (w .fits-x) (w .low) (w .high) in is-finite x
 -- ---- a product
 pub weighed-down : (p w : Float) → Weight p → Weight w → Weight (p ⊗ w) × T (le (p ⊗ w) p)
 weighed-down p w a b =
-    let h = weight p w (a .fits-x) (b .fits-x) (a .low) (finite-of p a) (b .low) (b .high) in
+    let h = Shares.weight p w (a .fits-x) (b .fits-x) (a .low) (finite-of p a) (b .low) (b .high) in
     let f = mul-fits binary64 p w in
     (record { fits-x = f; low = h .1; high = le-trans-fits (p ⊗ w) p f1 f (a .fits-x) (whole .fits-x) (h .2) (a .high) }, h .2)
 
@@ -61,18 +61,18 @@ metal-share F f h = go (isNan F) (le F f1) refl
     go false true e = let s = at-most-one F h (subst T (sym e) tt) in record { fits-x = f; low = s .1; high = s .2 }
 
 -- ---- the weight of a wavelength
-filtered-weight : (kind : Kind) (reflection : Bool) (F q ks tf : Float) → T (fits binary64 F) → NotNegative F → Weight q → Weight ks → Weight tf
-    → Weight (filtered kind reflection F q ks tf)
-unfolding filtered
-filtered-weight Metal reflection F q ks tf f n a b c = times (ks ⊗ metalShare F) q (times ks (metalShare F) b (metal-share F f n)) a
-filtered-weight Glass true F q ks tf f n a b c = times ks q b a
-filtered-weight Glass false F q ks tf f n a b c = times tf q c a
+filter-weight : (kind : Kind) (reflection : Bool) (F ks tf : Float) → T (fits binary64 F) → NotNegative F → Weight ks → Weight tf
+    → Weight (filter kind reflection F ks tf)
+unfolding filter metalFilter
+filter-weight Metal reflection F ks tf f n x y = times ks (metalShare F) x (metal-share F f n)
+filter-weight Glass true F ks tf f n x y = x
+filter-weight Glass false F ks tf f n x y = y
 
 pub weight-from : (s : Scattered) (m : Microsurface) (lambda : Color) (b : Bounce) (wavelength ks tf : Float)
-    → ((wi : Vec3) (reflection : Bool) → s ≡ scattered wi reflection → Weight (shadowing m lambda b wi))
+    → ((wi : Vec3) (reflection : Bool) → s ≡ scattered wi reflection → Weight (shadowingOn m lambda b wi))
     → Weight ks → Weight tf
     → Weight (weightFrom s m lambda b wavelength ks tf)
-unfolding weightFrom fresnelAt
+unfolding weightFrom weight fresnelAt
 weight-from lost m lambda b wavelength ks tf q x y = none
 weight-from totally m lambda b wavelength ks tf q x y = none
 weight-from (scattered wi reflection) m lambda b wavelength ks tf q x y = go (eq wavelength terminated)
@@ -83,7 +83,13 @@ weight-from (scattered wi reflection) m lambda b wavelength ks tf q x y = go (eq
     k : Float
     k = kAt (m .k) wavelength
 
-    go : (z : Bool) → Weight (cond z f0 (filtered (m .kind) reflection (fresnelAt m lambda b wavelength) (shadowing m lambda b wi) ks tf))
+    taken : Float
+    taken = filter (m .kind) reflection (fresnelAt m lambda b wavelength) ks tf
+
+    taken-weight : Weight taken
+    taken-weight = filter-weight (m .kind) reflection (fresnelAt m lambda b wavelength) ks tf
+        (share-fits (localWo b) (facet m lambda b) eta k) (fresnel-not-below (localWo b) (facet m lambda b) eta k) x y
+
+    go : (z : Bool) → Weight (cond z f0 (taken ⊗ shadowingOn m lambda b wi))
     go true = none
-    go false = filtered-weight (m .kind) reflection (fresnelAt m lambda b wavelength) (shadowing m lambda b wi) ks tf
-        (share-fits (localWo b) (facet m lambda b) eta k) (fresnel-not-below (localWo b) (facet m lambda b) eta k) (q wi reflection refl) x y
+    go false = times taken (shadowingOn m lambda b wi) taken-weight (q wi reflection refl)

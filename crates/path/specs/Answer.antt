@@ -4,13 +4,12 @@ use mathlib.Core.Bool.{Bool, true, false, cond}
 use lib.Ieee.{Float}
 use Rattle.numbers.specs.Float.{isFinite}
 use Rattle.numbers.specs.Onb.{basis, toWorld}
-use Rattle.numbers.specs.Refusal.{number, Answer, refused, given}
+use Rattle.numbers.specs.Refusal.{number, Answer, refused, given, Verdict, accepted, rejected}
 use Rattle.numbers.specs.declared.vec3.Vec3.{Vec3}
 use Rattle.optics.specs.Surface.{Microsurface}
 use Rattle.optics.specs.Bxdf.{Scattered, scattered, totally, rest}
 use Rattle.optics.specs.Bxdf as Bxdf
 use Rattle.optics.specs.Density.{pdf}
-use Rattle.optics.specs.Checked.{Verdict, accepted, rejected}
 use Rattle.optics.specs.declared.color.Color.{Color}
 use Rattle.optics.specs.declared.microfacet.Kind.{Kind}
 use Rattle.optics.specs.declared.microfacet.Kind.the-variants.{Metal, Glass}

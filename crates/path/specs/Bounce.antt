@@ -7,31 +7,30 @@ use lib.Ieee.{Float, isNan, le, eq}
 use Rattle.numbers.specs.Float.{_⊗_, f0, f1}
 use Rattle.numbers.specs.Onb.{basis, toLocal}
 use Rattle.numbers.specs.DenseSpectrum.{terminated}
+use Rattle.numbers.specs.declared.vec2.Vec2.{Vec2}
 use Rattle.numbers.specs.declared.vec3.Vec3.{Vec3}
-use Rattle.optics.specs.Color.{color}
+use Rattle.optics.specs.Color.{color, all4}
 use Rattle.optics.specs.Surface.{Microsurface, etaAt, kAt, constantEta}
 use Rattle.optics.specs.Facets.{isDelta, gOverG1}
 use Rattle.optics.specs.Fresnel.{fAt}
 use Rattle.optics.specs.Bxdf.{Scattered, scattered, lost, totally, conductorNormal, conductorFrom, isSmooth, dielectricNormal, dielectricFrom}
-use Rattle.optics.specs.Checked.{Verdict, accepted, rejected, refuse, checkSurface, checkDirection, checkRandom, checkCirclePair}
+use Rattle.numbers.specs.Refusal.{Verdict, _then_, refuse}
+use Rattle.numbers.specs.Checked.{checkDirection}
+use Rattle.optics.specs.Checked.{checkSurface, checkRandom, checkCirclePair}
 use Rattle.optics.specs.declared.color.Color.{Color}
 use Rattle.optics.specs.declared.microfacet.Kind.{Kind}
 use Rattle.optics.specs.declared.microfacet.Kind.the-variants.{Metal, Glass}
+use Rattle.path.specs.declared.bsdf.Constant.{Constant}
+use Rattle.path.specs.declared.bsdf.Constant.the-variants.{Known, Unknown}
 use Rattle.path.specs.declared.records.Path.{Path}
 use Rattle.path.specs.declared.records.Bounce.{Bounce}
-use Rattle.path.specs.Path.{path, weighed, all4, leading, terminate, isPathLambda, isPower, isFilter}
+use Rattle.path.specs.Path.{path, weighed, leading, terminate, isPathLambda, isPower, isFilter}
 
 -- ---- the checks, in 01's order ("At the counter")
--- a check, then the next
-infixr 25 _then_
-unfoldable pub _then_ : Verdict → Verdict → Verdict
-accepted then next = next
-rejected n then next = rejected n
-
-unfoldable pub checkBounce : Path → Microsurface → Bounce → Verdict
-checkBounce p m b =
-    checkSurface m
-    then refuse 4 (isPathLambda (p .lambda))
+-- all but the surface's
+unfoldable pub checkRest : Path → Bounce → Verdict
+checkRest p b =
+    refuse 4 (isPathLambda (p .lambda))
     then refuse 10 (all4 isPower (p .power))
     then checkDirection (b .wo)
     then checkDirection (b .normal)
@@ -41,9 +40,17 @@ checkBounce p m b =
     then refuse 8 (all4 isFilter (b .ks))
     then refuse 8 (all4 isFilter (b .tf))
 
+unfoldable pub checkBounce : Path → Microsurface → Bounce → Verdict
+checkBounce p m b = checkSurface m then checkRest p b
+
 -- ---- wavelengths two to four end on glass whose eta isn't constant
 unfoldable pub leftOnGlass : List Float → Color → Color
 leftOnGlass eta lambda = cond (constantEta eta) lambda (terminate lambda)
+
+-- whether eta is constant, from what is known of it
+unfoldable pub constantFrom : Constant → List Float → Bool
+constantFrom (Known constant) eta = constant
+constantFrom Unknown eta = constantEta eta
 
 unfoldable pub leftOn : Kind → List Float → Color → Color
 leftOn Metal eta lambda = lambda
@@ -84,31 +91,41 @@ unfoldable pub scatter : Microsurface → Color → Bounce → Scattered
 scatter m lambda b = scatterOn (m .kind) m lambda b
 
 -- ---- the weight of a wavelength (ours)
--- q is 1 where there is one direction only: delta, and glass whose eta at the leading wavelength is 1.0
+-- q, the share of the light that the facets let through to wi: 1 where there is one direction only
+unfoldable pub shadowing : Bool → Vec2 → Vec3 → Vec3 → Vec3 → Float
+shadowing one a wo wi wh = cond one f1 (gOverG1 a wo wi wh)
+
+-- delta, and glass whose eta at the leading wavelength is 1.0
 unfoldable pub oneDirection : Kind → Microsurface → Color → Bool
 oneDirection Metal m lambda = isDelta (m .roughness)
 oneDirection Glass m lambda = isSmooth (m .roughness) (leadingEta m lambda)
 
-unfoldable pub shadowing : Microsurface → Color → Bounce → Vec3 → Float
-shadowing m lambda b wi =
-    cond (oneDirection (m .kind) m lambda) f1
-    (gOverG1 (m .roughness) (localWo b) wi (facet m lambda b))
+unfoldable pub shadowingOn : Microsurface → Color → Bounce → Vec3 → Float
+shadowingOn m lambda b wi =
+    shadowing (oneDirection (m .kind) m lambda) (m .roughness) (localWo b) wi (facet m lambda b)
 
 -- 0 if F is NaN, F if it is at most 1, else 1.0
 unfoldable pub metalShare : Float → Float
 metalShare F = cond (isNan F) f0 (cond (le F f1) F f1)
 
-unfoldable pub filtered : Kind → Bool → Float → Float → Float → Float → Float
-filtered Metal reflection F q ks tf = ks ⊗ metalShare F ⊗ q
-filtered Glass reflection F q ks tf = cond reflection (ks ⊗ q) (tf ⊗ q)
+-- the filter of the branch that was taken; metal's reflects its share of F besides
+unfoldable pub metalFilter : Float → Float → Float
+metalFilter ks F = ks ⊗ metalShare F
 
--- a wavelength of 0 weighs 0, and so does each if the light is lost
+unfoldable pub filter : Kind → Bool → Float → Float → Float → Float
+filter Metal reflection F ks tf = metalFilter ks F
+filter Glass reflection F ks tf = cond reflection ks tf
+
+-- a wavelength of 0 weighs 0
+unfoldable pub weight : Float → Float → Float → Float
+weight wavelength filter q = cond (eq wavelength terminated) f0 (filter ⊗ q)
+
+-- and so does each if the light is lost
 unfoldable pub weightFrom : Scattered → Microsurface → Color → Bounce → Float → Float → Float → Float
 weightFrom lost m lambda b wavelength ks tf = f0
 weightFrom totally m lambda b wavelength ks tf = f0
 weightFrom (scattered wi reflection) m lambda b wavelength ks tf =
-    cond (eq wavelength terminated) f0
-    (filtered (m .kind) reflection (fresnelAt m lambda b wavelength) (shadowing m lambda b wi) ks tf)
+    weight wavelength (filter (m .kind) reflection (fresnelAt m lambda b wavelength) ks tf) (shadowingOn m lambda b wi)
 
 unfoldable pub weights : Microsurface → Color → Bounce → Color
 weights m lambda b =

@@ -3,11 +3,11 @@ use mathlib.Core.Path.{_≡_}
 use mathlib.Core.List.{List, [], _∷_}
 use lib.Dec.{T}
 use lib.Ieee.{Float, binary64, fits, le}
-use Rattle.numbers.specs.Float.{_⊕_, f0, f1, isFinite}
+use Rattle.numbers.specs.Float.{_⊕_, _⊖_, f0, f1, isFinite}
 use Rattle.numbers.specs.declared.vec3.Vec3.{Vec3}
 use Rattle.optics.specs.Surface.{Microsurface}
 use Rattle.optics.specs.Bxdf.{totally}
-use Rattle.optics.specs.Checked.{accepted}
+use Rattle.numbers.specs.Refusal.{accepted}
 use Rattle.optics.specs.declared.color.Color.{Color}
 use Rattle.optics.specs.declared.microfacet.Kind.{Kind}
 use Rattle.optics.specs.declared.microfacet.Kind.the-variants.{Metal, Glass}
@@ -67,12 +67,12 @@ AllFell before after = Fell (before .s0) (after .s0) × Fell (before .s1) (after
 abbrev pub FromZeroToOne : Float → Type 0
 FromZeroToOne x = T (le f0 x) × T (le x f1)
 
--- on glass there are shares, they lie from 0 to 1, and their one rounded sum is exactly 1.0; metal has none
+-- on glass there are shares, F and 1 - F, they lie from 0 to 1, and their one rounded sum is exactly 1.0; metal has none
 abbrev pub SharesHold : Kind → Shares → Type 0
 SharesHold Metal (S.Of F rest) = ⊥
 SharesHold Metal S.None = Unit
 SharesHold Glass S.None = ⊥
-SharesHold Glass (S.Of F rest) = FromZeroToOne F × FromZeroToOne rest × (F ⊕ rest ≡ f1)
+SharesHold Glass (S.Of F rest) = (rest ≡ f1 ⊖ F) × FromZeroToOne F × FromZeroToOne rest × (F ⊕ rest ≡ f1)
 
 -- a density that is handed out is finite and not below 0
 abbrev pub DensityHolds : Density → Type 0
@@ -105,6 +105,23 @@ Throughout {p} r (bounced s f a c q e run) = Holds p q r s a × Throughout (reck
 -- for every path that starts with powers 1.0, whatever its wavelengths, and every list of bounces on it
 unfoldable pub Demand3 : Type 0
 Demand3 = (lambda : Color) → ColorF64 lambda → (run : Run (path lambda ones)) → Throughout (path lambda ones) run
+
+-- ---- that it speaks of every list
+-- every bounce has an answer that its contract gives
+unfoldable pub Answered : Type 0
+Answered = (p : Path) (s : Step) → (a : Bounced) × (outcome a ≡ bounce p (s .surface) (s .bounce))
+
+-- so each list of steps, on any path, is that of a run
+unfoldable pub StepsF64 : List Step → Type 0
+StepsF64 [] = Unit
+StepsF64 (s ∷ steps) = StepF64 s × StepsF64 steps
+
+unfoldable pub stepsOf : {p : Path} → Run p → List Step
+stepsOf end = []
+stepsOf (bounced s f a c q e run) = s ∷ stepsOf run
+
+unfoldable pub RunForEvery : Type 0
+RunForEvery = (p : Path) (steps : List Step) → StepsF64 steps → (run : Run p) × (stepsOf run ≡ steps)
 
 -- ---- and beside it: in a bounce that isn't refused, a bend never meets total reflection, where the Rust has `unreachable!`
 unfoldable pub NeverTotal : Type 0

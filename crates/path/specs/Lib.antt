@@ -2,6 +2,8 @@
 pub mod Path
 pub mod Bounce
 pub mod Answer
+pub mod Plain
+pub mod Many
 pub mod Reckoning
 pub mod Demand3
 pub mod Samples

@@ -3,19 +3,15 @@ use mathlib.Core.Bool.{Bool, _&&_, not, cond}
 use lib.Ieee.{Float}
 use Rattle.numbers.specs.Float.{_⊗_, f0, f1, within}
 use Rattle.numbers.specs.DenseSpectrum.{terminated, isWavelength, isLookupWavelength}
-use Rattle.numbers.specs.Refusal.{Answer, given}
-use Rattle.optics.specs.Color.{color}
-use Rattle.optics.specs.Checked.{refuse, _▷_}
+use Rattle.numbers.specs.Refusal.{Answer, given, refuse, _▷_}
+use Rattle.optics.specs.Color.{color, all4}
 use Rattle.optics.specs.declared.color.Color.{Color}
 use Rattle.path.specs.declared.records.Path.{Path}
 
 abbrev pub path : Color → Color → Path
 path lambda power = record { lambda = lambda; power = power }
 
--- a test of each of four, and an operation on each two
-abbrev pub all4 : (Float → Bool) → Color → Bool
-all4 p a = p (a .s0) && p (a .s1) && p (a .s2) && p (a .s3)
-
+-- an operation on each two
 abbrev pub each2 : (Float → Float → Float) → Color → Color → Color
 each2 f a b = color (f (a .s0) (b .s0)) (f (a .s1) (b .s1)) (f (a .s2) (b .s2)) (f (a .s3) (b .s3))
 

@@ -10,34 +10,66 @@ use crate::wavelength;
 use crate::weight;
 use numbers::float;
 use numbers::onb::Onb;
+use numbers::refusal::Check;
 use numbers::vec3::Vec3;
 use optics::bxdf::Sampled;
 use optics::bxdf::conductor;
 use optics::bxdf::dielectric;
-use optics::checked::Check;
+use optics::checked;
 use optics::color::Color;
 use optics::microfacet;
+use optics::microfacet::Ggx;
 use optics::microfacet::Kind;
-use optics::microfacet::Masking;
 use optics::microfacet::Surface;
 ghost use mathlib.Core.Path.{_≡_};
-ghost use mathlib.Core.Bool.{cond};
-ghost use Rattle.numbers.specs.Float.{f0, f1};
+ghost use Rattle.numbers.specs.Float.{f0};
 ghost use Rattle.optics.specs.Color.{color};
-ghost use Rattle.optics.specs.Surface.{microsurface};
-ghost use Rattle.optics.specs.Facets.{isDelta, lambda, lambdaFrom, gOverG1};
+ghost use Rattle.numbers.specs.Refusal.{verdict};
+ghost use Rattle.optics.specs.Checked.{checkSurface};
+ghost use Rattle.optics.specs.Surface.{microsurface, constantEta};
+ghost use Rattle.optics.specs.Facets.{isDelta};
 ghost use Rattle.optics.specs.Bxdf.{isSmooth};
 ghost use Rattle.optics.specs.Density.{conductorPdf, dielectricPdf};
 ghost use Rattle.optics.specs.declared.microfacet.Kind.the-variants.{Metal, Glass};
 ghost use Rattle.path.specs.Path.{path, weighed};
-ghost use Rattle.path.specs.Bounce.{leftOnGlass};
+ghost use Rattle.path.specs.Bounce.{constantFrom, leftOnGlass, shadowing};
 ghost use Rattle.path.specs.Answer.{outcome, lost, densityOf, onSurface, bounce};
 
 // A bounce of `path` on a surface, whose spectra `eta` and `k` are lent beside it.
 pub fn bounce(path: Path, surface: Surface, eta: &[f64], k: &[f64], b: Bounce) -> Bounced
     ensures { λ r. ⌜ outcome r ≡ bounce path (microsurface surface (now (eta .entry)) (now (k .entry))) b ⌝ }
 {
-    if let Check::Refused(why) = check::check_bounce(path, surface, eta, k, b) {
+    let check = checked::check_surface(surface, eta, k);
+    bounce_with(check, Constant::Unknown, path, surface, eta, k, b)
+}
+
+// What is known of whether eta is constant.
+pub(crate) enum Constant {
+    Known(bool),
+    Unknown,
+}
+
+// A bounce on a surface, from what its check gave and what is known of its eta, so that many bounces
+// ask both once.
+pub(crate) fn bounce_with(
+    check: Check,
+    constant: Constant,
+    path: Path,
+    surface: Surface,
+    eta: &[f64],
+    k: &[f64],
+    b: Bounce,
+) -> Bounced
+    requires { ⌜ (verdict check ≡ checkSurface (microsurface surface (now eta) (now k))) × (constantFrom constant (now eta) ≡ constantEta (now eta)) ⌝ }
+    ensures { λ r. ⌜ outcome r ≡ bounce path (microsurface surface (now (eta .entry)) (now (k .entry))) b ⌝ }
+{
+    if let Check::Refused(why) = check {
+        return Bounced::Refused {
+            why: why,
+            path: path,
+        };
+    }
+    if let Check::Refused(why) = check::check_rest(path, b) {
         return Bounced::Refused {
             why: why,
             path: path,
@@ -46,7 +78,27 @@ pub fn bounce(path: Path, surface: Surface, eta: &[f64], k: &[f64], b: Bounce) -
     let kind = surface.kind;
     match kind {
         Kind::Metal => on_metal(path, surface, eta, k, b),
-        Kind::Glass => on_glass(path, surface, eta, k, b),
+        Kind::Glass => on_glass(constant, path, surface, eta, k, b),
+    }
+}
+
+// What many bounces on a surface find out once. Nothing asks it of metal.
+pub(crate) fn constant_on(surface: Surface, eta: &[f64]) -> Constant
+    ensures { λ r. ⌜ constantFrom r (now (eta .entry)) ≡ constantEta (now (eta .entry)) ⌝ }
+{
+    let kind = surface.kind;
+    match kind {
+        Kind::Metal => Constant::Unknown,
+        Kind::Glass => Constant::Known(microfacet::constant_eta(eta)),
+    }
+}
+
+fn is_constant(constant: Constant, eta: &[f64]) -> bool
+    ensures { λ r. ⌜ r ≡ constantFrom constant (now (eta .entry)) ⌝ }
+{
+    match constant {
+        Constant::Known(known) => known,
+        Constant::Unknown => microfacet::constant_eta(eta),
     }
 }
 
@@ -61,12 +113,16 @@ fn on_metal(path: Path, surface: Surface, eta: &[f64], k: &[f64], b: Bounce) -> 
 
     let uvw = Onb::new(b.normal);
     let wo = uvw.to_local(b.wo);
-    let wh = conductor::normal(wo, surface, b.disk, b.c, b.s);
-    let Sampled::Direction { wi, reflection: _ } = conductor::sample_from(wo, surface, wh) else {
+    let roughness = surface.roughness;
+    let mfd = Ggx {
+        roughness: roughness,
+    };
+    let wh = conductor::normal(wo, mfd, b.disk, b.c, b.s);
+    let Sampled::Direction { wi, reflection: _ } = conductor::sample_from(wo, mfd, wh) else {
         return lost(path, Shares::None);
     };
 
-    let seen = seen_on_metal(surface, wo, wi, wh);
+    let seen = seen_on_metal(mfd, wo, wi, wh);
     let filter = weight::metal_filter(b.ks, microfacet::f(eta, k, wo, wh, path.lambda));
     Bounced::Reflected {
         wi: uvw.to_world(wi),
@@ -77,12 +133,19 @@ fn on_metal(path: Path, surface: Surface, eta: &[f64], k: &[f64], b: Bounce) -> 
 }
 
 // Glass reflects light or passes it, by its Fresnel term at the leading wavelength.
-fn on_glass(path: Path, surface: Surface, eta: &[f64], k: &[f64], b: Bounce) -> Bounced
-    requires { ⌜ surface .kind ≡ Glass ⌝ }
+fn on_glass(
+    constant: Constant,
+    path: Path,
+    surface: Surface,
+    eta: &[f64],
+    k: &[f64],
+    b: Bounce,
+) -> Bounced
+    requires { ⌜ (surface .kind ≡ Glass) × (constantFrom constant (now eta) ≡ constantEta (now eta)) ⌝ }
     ensures { λ r. ⌜ outcome r ≡ onSurface path (microsurface surface (now (eta .entry)) (now (k .entry))) b ⌝ }
 {
     // wavelengths end before anything reads them
-    let lambda = left_on_glass(eta, path.lambda);
+    let lambda = left_on_glass(constant, eta, path.lambda);
     let power = path.power;
     let left = Path {
         lambda: lambda,
@@ -95,7 +158,11 @@ fn on_glass(path: Path, surface: Surface, eta: &[f64], k: &[f64], b: Bounce) -> 
 
     let uvw = Onb::new(b.normal);
     let wo = uvw.to_local(b.wo);
-    let wh = dielectric::normal(wo, surface, index, b.disk, b.c, b.s);
+    let roughness = surface.roughness;
+    let mfd = Ggx {
+        roughness: roughness,
+    };
+    let wh = dielectric::normal(wo, mfd, index, b.disk, b.c, b.s);
     let f = microfacet::f_at(wo, wh, index, absorption);
     let shares = Shares::Of {
         reflected: f,
@@ -106,7 +173,7 @@ fn on_glass(path: Path, surface: Surface, eta: &[f64], k: &[f64], b: Bounce) -> 
         return lost(left, shares);
     };
 
-    let seen = seen_on_glass(surface, index, absorption, wo, wi, wh, reflection);
+    let seen = seen_on_glass(mfd, index, absorption, wo, wi, wh, reflection);
     let density = density_of(seen.pdf);
     let world = uvw.to_world(wi);
     if reflection {
@@ -126,10 +193,11 @@ fn on_glass(path: Path, surface: Surface, eta: &[f64], k: &[f64], b: Bounce) -> 
 }
 
 // The wavelengths that are left on glass: all but the leading one end where it disperses light.
-fn left_on_glass(eta: &[f64], lambda: Color) -> Color
+fn left_on_glass(constant: Constant, eta: &[f64], lambda: Color) -> Color
+    requires { ⌜ constantFrom constant (now eta) ≡ constantEta (now eta) ⌝ }
     ensures { λ r. ⌜ r ≡ leftOnGlass (now (eta .entry)) lambda ⌝ }
 {
-    if microfacet::constant_eta(eta) {
+    if is_constant(constant, eta) {
         return lambda;
     }
     wavelength::terminate(lambda)
@@ -142,44 +210,26 @@ struct Seen {
     q: f64,
 }
 
-fn seen_on_metal(surface: Surface, wo: Vec3, wi: Vec3, wh: Vec3) -> Seen
-    ensures { λ r. ⌜ (r .pdf ≡ conductorPdf (surface .roughness) wo wi) × (r .q ≡ cond (isDelta (surface .roughness)) f1 (gOverG1 (surface .roughness) wo wi wh)) ⌝ }
+fn seen_on_metal(mfd: Ggx, wo: Vec3, wi: Vec3, wh: Vec3) -> Seen
+    ensures { λ r. ⌜ (r .pdf ≡ conductorPdf (mfd .roughness) wo wi) × (r .q ≡ shadowing (isDelta (mfd .roughness)) (mfd .roughness) wo wi wh) ⌝ }
 {
-    let delta = surface.is_delta();
-    let masking = masking(surface, delta, wo);
+    let delta = mfd.is_delta();
+    let lambda_wo = mfd.lambda_unless(delta, wo);
     Seen {
-        pdf: conductor::pdf_with(masking, wo, wi, surface),
-        q: weight::shadowing(surface, delta, masking, wo, wi, wh),
+        pdf: conductor::pdf_with(lambda_wo, wo, wi, mfd),
+        q: weight::shadowing(mfd, delta, lambda_wo, wo, wi, wh),
     }
 }
 
-fn seen_on_glass(
-    surface: Surface,
-    eta: f64,
-    k: f64,
-    wo: Vec3,
-    wi: Vec3,
-    wh: Vec3,
-    reflection: bool,
-) -> Seen
-    ensures { λ r. ⌜ (r .pdf ≡ dielectricPdf (surface .roughness) eta k reflection wo wi) × (r .q ≡ cond (isSmooth (surface .roughness) eta) f1 (gOverG1 (surface .roughness) wo wi wh)) ⌝ }
+fn seen_on_glass(mfd: Ggx, eta: f64, k: f64, wo: Vec3, wi: Vec3, wh: Vec3, reflection: bool) -> Seen
+    ensures { λ r. ⌜ (r .pdf ≡ dielectricPdf (mfd .roughness) eta k reflection wo wi) × (r .q ≡ shadowing (isSmooth (mfd .roughness) eta) (mfd .roughness) wo wi wh) ⌝ }
 {
-    let smooth = dielectric::is_smooth(surface, eta);
-    let masking = masking(surface, smooth, wo);
+    let smooth = dielectric::is_smooth(mfd, eta);
+    let lambda_wo = mfd.lambda_unless(smooth, wo);
     Seen {
-        pdf: dielectric::pdf_with(masking, wo, wi, reflection, surface, eta, k),
-        q: weight::shadowing(surface, smooth, masking, wo, wi, wh),
+        pdf: dielectric::pdf_with(lambda_wo, wo, wi, reflection, mfd, eta, k),
+        q: weight::shadowing(mfd, smooth, lambda_wo, wo, wi, wh),
     }
-}
-
-// Λ(wo), but where the surface scatters into one direction: there nothing reads it.
-fn masking(surface: Surface, one_direction: bool, wo: Vec3) -> Masking
-    ensures { λ r. ⌜ lambdaFrom r (surface .roughness) wo ≡ lambda (surface .roughness) wo ⌝ }
-{
-    if one_direction {
-        return Masking::Unknown;
-    }
-    Masking::Known(surface.lambda(wo))
 }
 
 // No power is left of light that is lost.

@@ -2,6 +2,8 @@
 // left. Every public function equals a definition of specs/, for every input.
 pub mod bsdf;
 mod check;
+pub mod many;
+pub mod plain;
 pub mod records;
 pub mod thin;
 pub mod wavelength;

@@ -30,26 +30,18 @@ pub fn terminate(lambda: Color) -> Color
 pub fn is_start(lambda: Color) -> bool
     ensures { λ r. ⌜ r ≡ isStart lambda ⌝ }
 {
-    if dense_spectrum::is_wavelength(lambda.s0) {
-        if dense_spectrum::is_wavelength(lambda.s1) {
-            if dense_spectrum::is_wavelength(lambda.s2) {
-                return dense_spectrum::is_wavelength(lambda.s3);
-            }
-        }
-    }
-    false
+    dense_spectrum::is_wavelength(lambda.s0)
+        & dense_spectrum::is_wavelength(lambda.s1)
+        & dense_spectrum::is_wavelength(lambda.s2)
+        & dense_spectrum::is_wavelength(lambda.s3)
 }
 
 // Whether a path may have come to the wavelengths: all but the leading one may be ended.
 pub fn is_path_lambda(lambda: Color) -> bool
     ensures { λ r. ⌜ r ≡ isPathLambda lambda ⌝ }
 {
-    if dense_spectrum::is_wavelength(leading_sample(lambda)) {
-        if dense_spectrum::is_lookup_wavelength(lambda.s1) {
-            if dense_spectrum::is_lookup_wavelength(lambda.s2) {
-                return dense_spectrum::is_lookup_wavelength(lambda.s3);
-            }
-        }
-    }
-    false
+    dense_spectrum::is_wavelength(leading_sample(lambda))
+        & dense_spectrum::is_lookup_wavelength(lambda.s1)
+        & dense_spectrum::is_lookup_wavelength(lambda.s2)
+        & dense_spectrum::is_lookup_wavelength(lambda.s3)
 }

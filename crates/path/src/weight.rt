@@ -2,16 +2,13 @@
 use crate::wavelength::TERMINATED;
 use numbers::vec3::Vec3;
 use optics::color::Color;
-use optics::microfacet::Masking;
-use optics::microfacet::Surface;
+use optics::microfacet::Ggx;
 ghost use mathlib.Core.Path.{_≡_};
 ghost use mathlib.Core.Bool.{cond};
-ghost use lib.Ieee.{eq};
-ghost use Rattle.numbers.specs.Float.{_⊗_, f0, f1};
-ghost use Rattle.numbers.specs.DenseSpectrum.{terminated};
-ghost use Rattle.optics.specs.Facets.{lambdaFrom, gOverG1With};
+ghost use Rattle.numbers.specs.Float.{f0};
+ghost use Rattle.optics.specs.Facets.{lambda};
 ghost use Rattle.path.specs.Path.{each2};
-ghost use Rattle.path.specs.Bounce.{metalShare};
+ghost use Rattle.path.specs.Bounce.{shadowing, metalShare, metalFilter, weight};
 
 // The weights of light that is lost.
 pub const LOST: Color = Color {
@@ -22,21 +19,22 @@ pub const LOST: Color = Color {
 };
 
 // q: the share of the light that the facets let through to `wi`, and 1 where the surface scatters
-// into one direction. `masking` is what is known of Λ(wo).
-pub fn shadowing(
-    surface: Surface,
+// into one direction. `lambda_wo` is Λ(wo) where that is read.
+pub(crate) fn shadowing(
+    mfd: Ggx,
     one_direction: bool,
-    masking: Masking,
+    lambda_wo: f64,
     wo: Vec3,
     wi: Vec3,
     wh: Vec3,
 ) -> f64
-    ensures { λ r. ⌜ r ≡ cond «one_direction» f1 (gOverG1With (surface .roughness) (lambdaFrom masking (surface .roughness) wo) wo wi wh) ⌝ }
+    requires { ⌜ «lambda_wo» ≡ cond «one_direction» f0 (lambda (mfd .roughness) wo) ⌝ }
+    ensures { λ r. ⌜ r ≡ shadowing «one_direction» (mfd .roughness) wo wi wh ⌝ }
 {
     if one_direction {
         return 1.0;
     }
-    surface.g_over_g1_with(masking, wo, wi, wh)
+    mfd.g_over_g1_at(lambda_wo, wo.dot(wh), wo, wi, wh)
 }
 
 // The share of light that metal reflects, from its Fresnel term `f`: rounding may take that above 1.
@@ -54,7 +52,7 @@ fn metal_share(f: f64) -> f64
 
 // The filter of light that metal reflects, whose Fresnel terms are `f`.
 pub fn metal_filter(ks: Color, f: Color) -> Color
-    ensures { λ r. ⌜ r ≡ each2 (λ x F. x ⊗ metalShare F) ks f ⌝ }
+    ensures { λ r. ⌜ r ≡ each2 metalFilter ks f ⌝ }
 {
     Color {
         s0: ks.s0 * metal_share(f.s0),
@@ -66,7 +64,7 @@ pub fn metal_filter(ks: Color, f: Color) -> Color
 
 // The weight at one wavelength: an ended one weighs 0.
 fn weight(wl: f64, filter: f64, q: f64) -> f64
-    ensures { λ r. ⌜ r ≡ cond (eq wl terminated) f0 (filter ⊗ q) ⌝ }
+    ensures { λ r. ⌜ r ≡ weight wl filter q ⌝ }
 {
     if wl == TERMINATED {
         return 0.0;
@@ -76,7 +74,7 @@ fn weight(wl: f64, filter: f64, q: f64) -> f64
 
 // The weights at four wavelengths, from the filter of the branch that was taken.
 pub fn weights(lambda: Color, filter: Color, q: f64) -> Color
-    ensures { λ r. ⌜ r ≡ each2 (λ wl x. cond (eq wl terminated) f0 (x ⊗ q)) lambda filter ⌝ }
+    ensures { λ r. ⌜ r ≡ each2 (λ wl x. weight wl x q) lambda filter ⌝ }
 {
     Color {
         s0: weight(lambda.s0, filter.s0, q),

@@ -100,7 +100,9 @@ fn replay2(fd: i32, number: u64, w: &[f64; 30]) -> bool {
             let s = words::surface(w);
             let reflection = words::is_true(w[9]);
             let wi = words::vec3(w[6], w[7], w[8]);
-            words::same_float(fd, bxdf::pdf(s, y, wi, reflection, w[10], w[11]))
+            let kind = s.kind;
+            let a = words::rough(s.roughness.x, s.roughness.y);
+            words::same_float(fd, bxdf::pdf(kind, a, y, wi, reflection, w[10], w[11]))
         }
         _ => false,
     }

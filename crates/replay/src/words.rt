@@ -6,6 +6,7 @@ use numbers::checked::Vec3Answer;
 use numbers::vec2::Vec2;
 use numbers::vec3::Vec3;
 use optics::color::Color;
+use optics::microfacet::Ggx;
 use optics::microfacet::Kind;
 use optics::microfacet::Surface;
 
@@ -32,10 +33,9 @@ pub fn surface(w: &[f64; 30]) -> Surface {
     }
 }
 
-// A surface of the roughness, whose kind is not read.
-pub fn rough(x: f64, y: f64) -> Surface {
-    Surface {
-        kind: Kind::Metal,
+// Facets of the roughness.
+pub fn rough(x: f64, y: f64) -> Ggx {
+    Ggx {
         roughness: Vec2 { x: x, y: y },
     }
 }

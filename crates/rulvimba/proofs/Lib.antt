@@ -1,3 +1,3 @@
--- What the proofs of several functions use, and that a kind which is neither metal nor glass is refused.
-mod ManyBounces
+-- That a kind which is neither metal nor glass is refused, and demand 3 over calls on a path in memory.
 pub mod UnknownKind
+pub mod Demand3

@@ -5,16 +5,16 @@ use mathlib.Core.List.{List}
 use lib.Ieee.{Float, le}
 use borrow.Author.Tests.{lt-leb}
 use Rattle.numbers.specs.Float.{within, decimal}
-use Rattle.numbers.specs.Refusal.{refused}
+use Rattle.numbers.specs.Refusal.{refused, rejected, refuse, _then_, _▷_}
 use Rattle.optics.specs.Surface.{roughnessMin, isRoughness, roughnessHolds, isRoughnessGiven}
-use Rattle.optics.specs.Checked.{rejected, checkSurface, makeSurface, refuse, _▷_}
+use Rattle.optics.specs.Checked.{checkSurface, makeSurface}
 use Rattle.rulvimba.specs.declared.surfaces.SurfaceRecord.{SurfaceRecord}
 use Rattle.rulvimba.specs.Surfaces.{kindOf, roughnessOf, surfaceOf, surfaceWith}
 
 pub unknown-checked : (s : SurfaceRecord) (eta k : List Float) → 1 < s .kind → checkSurface (surfaceWith s eta k) ≡ rejected 1
-unfolding checkSurface surfaceOf roughnessOf roughnessHolds isRoughness within roughnessMin decimal le
+unfolding checkSurface refuse _then_ surfaceOf roughnessOf roughnessHolds isRoughness within roughnessMin decimal le
 unknown-checked s eta k h = rw (lt-leb _ _ h)
 
 pub unknown-made : (kind : ℕ) (r : Float) (eta k : List Float) → 1 < kind → makeSurface (kindOf kind) (roughnessOf kind r) eta k ≡ refused 1
-unfolding makeSurface roughnessOf isRoughnessGiven within le refuse _▷_
+unfolding makeSurface roughnessOf isRoughnessGiven within le refuse _then_ _▷_
 unknown-made kind r eta k h = rw (lt-leb _ _ h)

@@ -2,4 +2,4 @@
 pub mod Results
 pub mod Surfaces
 pub mod Paths
-pub mod Bounces
+pub mod Demand3

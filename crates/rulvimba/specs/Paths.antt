@@ -1,20 +1,19 @@
 -- A path in the caller's memory: eight numbers, four wavelengths and then four powers. Definitions only.
 use Prim.Native.Nat.{ℕ}
+use mathlib.Core.Path.{_≡_}
 use mathlib.Core.List.{List, [], _∷_}
-use lib.Ieee.{Float, nan}
-use lib.ListN.{getD}
+use lib.Ieee.{Float}
 use Rattle.numbers.specs.Refusal.{Answer, refused, given}
-use Rattle.optics.specs.Color.{color}
-use Rattle.path.specs.Path.{path}
-use Rattle.path.specs.Answer.{Outcome, refusal, lost, reflected, passed}
+use Rattle.optics.specs.declared.color.Color.{Color}
+use Rattle.path.specs.Path.{start}
+use Rattle.path.specs.Answer.{Outcome, refusal, lost, reflected, passed, bounce}
+use Rattle.path.specs.Plain.{bounceResult}
+use Rattle.path.specs.Many.{pathIn}
 use Rattle.path.specs.declared.records.Path.{Path}
-
--- the number at a place of a list, and NaN past its end
-abbrev pub at : List Float → ℕ → Float
-at xs i = getD xs i nan
-
-unfoldable pub pathIn : List Float → Path
-pathIn xs = path (color (at xs 0) (at xs 1) (at xs 2) (at xs 3)) (color (at xs 4) (at xs 5) (at xs 6) (at xs 7))
+use Rattle.path.specs.declared.records.Bounce.{Bounce}
+use Rattle.path.specs.declared.plain.BounceResult.{BounceResult}
+use Rattle.rulvimba.specs.declared.surfaces.SurfaceRecord.{SurfaceRecord}
+use Rattle.rulvimba.specs.Surfaces.{surfaceWith}
 
 unfoldable pub numbersOf : Path → List Float
 numbersOf p =
@@ -30,9 +29,20 @@ unfoldable pub pathStarted : List Float → Answer Path → List Float
 pathStarted before (refused n) = before
 pathStarted before (given p) = numbersOf p
 
+-- the contract of rulvimba_start, which returns n and leaves `after` where `before` was
+abbrev pub StartCall : List Float → Color → ℕ → List Float → Type 0
+StartCall before lambda n after = (n ≡ startNumber (start lambda)) × (after ≡ pathStarted before (start lambda))
+
 -- ---- what the memory holds after a bounce: what it held if the bounce is refused, else the path of the answer
 unfoldable pub pathAfter : List Float → Outcome → List Float
 pathAfter before (refusal n p) = before
 pathAfter before (lost shares p) = numbersOf p
 pathAfter before (reflected wi density shares p) = numbersOf p
 pathAfter before (passed wi density shares p) = numbersOf p
+
+-- the contract of rulvimba_bounce, which reads its path from memory,
+-- returns r and leaves `after` where `before` was
+abbrev pub BounceCall : List Float → SurfaceRecord → List Float → List Float → Bounce → BounceResult → List Float → Type 0
+BounceCall before s eta k b r after =
+    let answer = bounce (pathIn before) (surfaceWith s eta k) b in
+    (r ≡ bounceResult answer) × (after ≡ pathAfter before answer)

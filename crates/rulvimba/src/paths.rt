@@ -1,20 +1,18 @@
 // A path in the caller's memory: eight doubles, four wavelengths and then four powers.
-use crate::records;
-use crate::records::BounceResult;
 use crate::surfaces;
 use crate::surfaces::SurfaceRecord;
 use optics::color::Color;
 use path::bsdf;
+use path::plain;
+use path::plain::BounceResult;
 use path::records::Bounce;
 use path::records::Bounced;
 use path::records::Path;
 use path::records::Started;
 ghost use mathlib.Core.Path.{_≡_};
-ghost use Rattle.path.specs.Path.{start};
-ghost use Rattle.path.specs.Answer.{outcome, started, bounce};
-ghost use Rattle.rulvimba.specs.Surfaces.{surfaceWith};
-ghost use Rattle.rulvimba.specs.Results.{bounceResult};
-ghost use Rattle.rulvimba.specs.Paths.{pathIn, numbersOf, startNumber, pathStarted, pathAfter};
+ghost use Rattle.path.specs.Answer.{outcome};
+ghost use Rattle.path.specs.Many.{pathIn};
+ghost use Rattle.rulvimba.specs.Paths.{numbersOf, pathAfter, StartCall, BounceCall};
 
 fn load(numbers: &[f64; 8]) -> Path
     ensures { λ r. ⌜ r ≡ pathIn (now (numbers .entry)) ⌝ }
@@ -75,7 +73,7 @@ fn keep(numbers: &mut [f64; 8], answer: Bounced)
 // Starts a path at four wavelengths; a refusal leaves the memory as it was.
 #[no_mangle]
 pub extern "C" fn rulvimba_start(path: &mut [f64; 8], lambda: Color) -> u64
-    ensures { λ r. ⌜ (r ≡ startNumber (start lambda)) × (now (path .exit) ≡ pathStarted (now (path .entry)) (start lambda)) ⌝ }
+    ensures { λ r. ⌜ StartCall (now (path .entry)) lambda r (now (path .exit)) ⌝ }
 {
     match Path::start(lambda) {
         Started::Refused(why) => why.number(),
@@ -95,9 +93,9 @@ pub extern "C" fn rulvimba_bounce(
     k: &[f64],
     b: Bounce,
 ) -> BounceResult
-    ensures { λ r. ⌜ (r ≡ bounceResult (bounce (pathIn (now (path .entry))) (surfaceWith surface (now (eta .entry)) (now (k .entry))) b)) × (now (path .exit) ≡ pathAfter (now (path .entry)) (bounce (pathIn (now (path .entry))) (surfaceWith surface (now (eta .entry)) (now (k .entry))) b)) ⌝ }
+    ensures { λ r. ⌜ BounceCall (now (path .entry)) surface (now (eta .entry)) (now (k .entry)) b r (now (path .exit)) ⌝ }
 {
     let answer = bsdf::bounce(load(path), surfaces::of_record(surface), eta, k, b);
     keep(path, answer);
-    records::of_bounced(answer)
+    plain::of_bounced(answer)
 }

@@ -2,18 +2,17 @@
 use crate::bxdf;
 use crate::bxdf::Reflected;
 use crate::bxdf::Sampled;
-use crate::microfacet::Masking;
-use crate::microfacet::Surface;
+use crate::microfacet::Ggx;
 use numbers::float;
 use numbers::spherical_utils;
 use numbers::vec3::Vec3;
 ghost use mathlib.Core.Path.{_≡_};
-ghost use Rattle.optics.specs.Facets.{lambdaFrom};
 ghost use Rattle.optics.specs.Bxdf.{sampled, conductorNormal, conductorFrom, conductorSample};
-ghost use Rattle.optics.specs.Density.{conductorPdfWith, conductorPdf};
+ghost use Rattle.optics.specs.Density.{conductorPdf};
+ghost use Rattle.optics.specs.SharedTerms.{conductorPdfWith};
 
 // The facet's normal: Z if delta.
-pub fn normal(wo: Vec3, mfd: Surface, disk: f64, c: f64, s: f64) -> Vec3
+pub fn normal(wo: Vec3, mfd: Ggx, disk: f64, c: f64, s: f64) -> Vec3
     ensures { λ r. ⌜ r ≡ conductorNormal (mfd .roughness) wo disk c s ⌝ }
 {
     if mfd.is_delta() {
@@ -23,7 +22,7 @@ pub fn normal(wo: Vec3, mfd: Surface, disk: f64, c: f64, s: f64) -> Vec3
 }
 
 // The direction that the facet's normal `wh` sends on.
-pub fn sample_from(wo: Vec3, mfd: Surface, wh: Vec3) -> Sampled
+pub fn sample_from(wo: Vec3, mfd: Ggx, wh: Vec3) -> Sampled
     ensures { λ r. ⌜ sampled r ≡ conductorFrom (mfd .roughness) wo wh ⌝ }
 {
     if mfd.is_delta() {
@@ -46,21 +45,21 @@ pub fn sample_from(wo: Vec3, mfd: Surface, wh: Vec3) -> Sampled
     }
 }
 
-pub fn sample(wo: Vec3, mfd: Surface, disk: f64, c: f64, s: f64) -> Sampled
+pub fn sample(wo: Vec3, mfd: Ggx, disk: f64, c: f64, s: f64) -> Sampled
     ensures { λ r. ⌜ sampled r ≡ conductorSample (mfd .roughness) wo disk c s ⌝ }
 {
     sample_from(wo, mfd, normal(wo, mfd, disk, c, s))
 }
 
-pub fn pdf(wo: Vec3, wi: Vec3, mfd: Surface) -> f64
+pub fn pdf(wo: Vec3, wi: Vec3, mfd: Ggx) -> f64
     ensures { λ r. ⌜ r ≡ conductorPdf (mfd .roughness) wo wi ⌝ }
 {
-    pdf_with(Masking::Unknown, wo, wi, mfd)
+    pdf_with(mfd.lambda_unless(mfd.is_delta(), wo), wo, wi, mfd)
 }
 
-// `pdf` with what is known of Λ(wo).
-pub fn pdf_with(masking: Masking, wo: Vec3, wi: Vec3, mfd: Surface) -> f64
-    ensures { λ r. ⌜ r ≡ conductorPdfWith (mfd .roughness) (lambdaFrom masking (mfd .roughness) wo) wo wi ⌝ }
+// `pdf` with Λ(wo) at hand.
+pub fn pdf_with(lambda_wo: f64, wo: Vec3, wi: Vec3, mfd: Ggx) -> f64
+    ensures { λ r. ⌜ r ≡ conductorPdfWith (mfd .roughness) «lambda_wo» wo wi ⌝ }
 {
     // check if in same hemisphere or perpendicular to normal
     if spherical_utils::same_hemisphere(wi, wo) {
@@ -69,7 +68,8 @@ pub fn pdf_with(masking: Masking, wo: Vec3, wi: Vec3, mfd: Surface) -> f64
             return bxdf::at_z(wh, 1.0);
         }
         let wh_dot_wo = wo.dot(wh);
-        return mfd.sample_normal_pdf_at(masking, wh_dot_wo, wh, wo) / (4.0 * float::abs(wh_dot_wo));
+        return mfd.sample_normal_pdf_at(lambda_wo, wh_dot_wo, wh, wo)
+            / (4.0 * float::abs(wh_dot_wo));
     }
     0.0
 }

@@ -4,18 +4,17 @@ use crate::bxdf::Reflected;
 use crate::bxdf::Refracted;
 use crate::bxdf::Sampled;
 use crate::microfacet;
-use crate::microfacet::Masking;
-use crate::microfacet::Surface;
+use crate::microfacet::Ggx;
 use numbers::float;
 use numbers::vec3::Vec3;
 ghost use mathlib.Core.Path.{_≡_};
-ghost use Rattle.optics.specs.Facets.{lambdaFrom};
 ghost use Rattle.optics.specs.Bxdf.{sampled, isSmooth, dielectricNormal, dielectricFrom, dielectricSample};
 ghost use Rattle.numbers.specs.Vec3.{dot};
-ghost use Rattle.optics.specs.Density.{etaRatio, dielectricHalf, isDiscarded, reflectedPdf, passedPdf, dielectricAt, dielectricPdfWith, dielectricPdf};
+ghost use Rattle.optics.specs.Density.{etaRatio, dielectricHalf, isDiscarded, reflectedPdf, passedPdf, dielectricPdfFrom, dielectricPdf};
+ghost use Rattle.optics.specs.SharedTerms.{sampleNormalPdfAt, dielectricPdfWith};
 
 // Glass that scatters into one direction: delta, or of the index 1.0.
-pub fn is_smooth(mfd: Surface, eta: f64) -> bool
+pub fn is_smooth(mfd: Ggx, eta: f64) -> bool
     ensures { λ r. ⌜ r ≡ isSmooth (mfd .roughness) eta ⌝ }
 {
     if eta == 1.0 {
@@ -25,7 +24,7 @@ pub fn is_smooth(mfd: Surface, eta: f64) -> bool
 }
 
 // The facet's normal: Z for delta and index matched glass.
-pub fn normal(wo: Vec3, mfd: Surface, eta: f64, disk: f64, c: f64, s: f64) -> Vec3
+pub fn normal(wo: Vec3, mfd: Ggx, eta: f64, disk: f64, c: f64, s: f64) -> Vec3
     ensures { λ r. ⌜ r ≡ dielectricNormal (mfd .roughness) eta wo disk c s ⌝ }
 {
     if is_smooth(mfd, eta) {
@@ -62,7 +61,7 @@ pub fn sample_from(wo: Vec3, wh: Vec3, eta: f64, pr: f64, rand_u: f64) -> Sample
 // `eta` and `k` are those at the leading wavelength.
 pub fn sample(
     wo: Vec3,
-    mfd: Surface,
+    mfd: Ggx,
     eta: f64,
     k: f64,
     rand_u: f64,
@@ -76,27 +75,28 @@ pub fn sample(
     sample_from(wo, wh, eta, microfacet::f_at(wo, wh, eta, k), rand_u)
 }
 
-pub fn pdf(wo: Vec3, wi: Vec3, reflection: bool, mfd: Surface, eta: f64, k: f64) -> f64
+pub fn pdf(wo: Vec3, wi: Vec3, reflection: bool, mfd: Ggx, eta: f64, k: f64) -> f64
     ensures { λ r. ⌜ r ≡ dielectricPdf (mfd .roughness) eta k reflection wo wi ⌝ }
 {
-    pdf_with(Masking::Unknown, wo, wi, reflection, mfd, eta, k)
+    let lambda_wo = mfd.lambda_unless(is_smooth(mfd, eta), wo);
+    pdf_with(lambda_wo, wo, wi, reflection, mfd, eta, k)
 }
 
-// `pdf` with what is known of Λ(wo).
+// `pdf` with Λ(wo) at hand.
 pub fn pdf_with(
-    masking: Masking,
+    lambda_wo: f64,
     wo: Vec3,
     wi: Vec3,
     reflection: bool,
-    mfd: Surface,
+    mfd: Ggx,
     eta: f64,
     k: f64,
 ) -> f64
-    ensures { λ r. ⌜ r ≡ dielectricPdfWith (mfd .roughness) (lambdaFrom masking (mfd .roughness) wo) eta k reflection wo wi ⌝ }
+    ensures { λ r. ⌜ r ≡ dielectricPdfWith (mfd .roughness) «lambda_wo» eta k reflection wo wi ⌝ }
 {
     let ratio = eta_ratio(reflection, wo, eta);
     let wh = half(eta, ratio, wo, wi);
-    pdf_at(masking, wo, wi, wh, reflection, mfd, eta, k, ratio)
+    pdf_at(lambda_wo, wo, wi, wh, reflection, mfd, eta, k, ratio)
 }
 
 fn eta_ratio(reflection: bool, wo: Vec3, eta: f64) -> f64
@@ -122,17 +122,17 @@ fn half(eta: f64, ratio: f64, wo: Vec3, wi: Vec3) -> Vec3
 }
 
 fn pdf_at(
-    masking: Masking,
+    lambda_wo: f64,
     wo: Vec3,
     wi: Vec3,
     wh: Vec3,
     reflection: bool,
-    mfd: Surface,
+    mfd: Ggx,
     eta: f64,
     k: f64,
     ratio: f64,
 ) -> f64
-    ensures { λ r. ⌜ r ≡ dielectricAt (mfd .roughness) (lambdaFrom masking (mfd .roughness) wo) eta k ratio reflection wo wi wh ⌝ }
+    ensures { λ r. ⌜ r ≡ dielectricPdfFrom (sampleNormalPdfAt (mfd .roughness) «lambda_wo» (dot wo wh) wh wo) (isSmooth (mfd .roughness) eta) eta k ratio reflection wo wi wh ⌝ }
 {
     let wh_dot_wo = wo.dot(wh);
     let wh_dot_wi = wi.dot(wh);
@@ -141,10 +141,10 @@ fn pdf_at(
     }
     let pr = microfacet::fresnel(wh_dot_wo, eta, k);
     if reflection {
-        return reflected_pdf(masking, mfd, eta, pr, wh_dot_wo, wo, wh);
+        return reflected_pdf(lambda_wo, mfd, eta, pr, wh_dot_wo, wo, wh);
     }
     passed_pdf(
-        masking,
+        lambda_wo,
         mfd,
         eta,
         ratio,
@@ -175,8 +175,8 @@ fn is_discarded(wh_dot_wo: f64, wh_dot_wi: f64, wo: Vec3, wi: Vec3) -> bool
 
 // Reflection, `pr` being its share.
 fn reflected_pdf(
-    masking: Masking,
-    mfd: Surface,
+    lambda_wo: f64,
+    mfd: Ggx,
     eta: f64,
     pr: f64,
     wh_dot_wo: f64,
@@ -184,20 +184,20 @@ fn reflected_pdf(
     wh: Vec3,
 ) -> f64
     requires { ⌜ «wh_dot_wo» ≡ dot wo wh ⌝ }
-    ensures { λ r. ⌜ r ≡ reflectedPdf (mfd .roughness) (lambdaFrom masking (mfd .roughness) wo) eta pr wo wh ⌝ }
+    ensures { λ r. ⌜ r ≡ reflectedPdf (sampleNormalPdfAt (mfd .roughness) «lambda_wo» «wh_dot_wo» wh wo) (isSmooth (mfd .roughness) eta) pr wo wh ⌝ }
 {
     let pt = 1.0 - pr;
     if is_smooth(mfd, eta) {
         return bxdf::at_z(wh, pr / (pr + pt));
     }
-    mfd.sample_normal_pdf_at(masking, wh_dot_wo, wh, wo) / (4.0 * float::abs(wh_dot_wo)) * pr
+    mfd.sample_normal_pdf_at(lambda_wo, wh_dot_wo, wh, wo) / (4.0 * float::abs(wh_dot_wo)) * pr
         / (pr + pt)
 }
 
 // Transmission, `1.0 - pr` being its share.
 fn passed_pdf(
-    masking: Masking,
-    mfd: Surface,
+    lambda_wo: f64,
+    mfd: Ggx,
     eta: f64,
     ratio: f64,
     pr: f64,
@@ -208,14 +208,14 @@ fn passed_pdf(
     wh: Vec3,
 ) -> f64
     requires { ⌜ («wh_dot_wo» ≡ dot wo wh) × («wh_dot_wi» ≡ dot wi wh) ⌝ }
-    ensures { λ r. ⌜ r ≡ passedPdf (mfd .roughness) (lambdaFrom masking (mfd .roughness) wo) eta ratio pr wo wi wh ⌝ }
+    ensures { λ r. ⌜ r ≡ passedPdf (sampleNormalPdfAt (mfd .roughness) «lambda_wo» «wh_dot_wo» wh wo) (isSmooth (mfd .roughness) eta) ratio pr wo wi wh ⌝ }
 {
     let pt = 1.0 - pr;
     if is_smooth(mfd, eta) {
         return bxdf::at_z(wh, pt / (pr + pt));
     }
     let root = wh_dot_wi + wh_dot_wo / ratio;
-    mfd.sample_normal_pdf_at(masking, wh_dot_wo, wh, wo) * float::abs(wh_dot_wi) / (root * root)
+    mfd.sample_normal_pdf_at(lambda_wo, wh_dot_wo, wh, wo) * float::abs(wh_dot_wi) / (root * root)
         * pt
         / (pr + pt)
 }

@@ -1,44 +1,25 @@
--- `numbers::checked::lookup` meets its contract: each answer is the definition's, by the tests on the way.
+-- `numbers::checked::lookup` meets its contract: refused as the checks say, or the value.
 use borrow.Author.Needs.{needs}
-use borrow.Author.Tests.{ne-eqb}
+use Rattle.numbers.specs.Refusal.{verdict, _▷_}
 use Rattle.numbers.specs.Checked.{lookup, floatAnswer}
-use Rattle.numbers.specs.Refusal.{number}
 use Rattle.numbers.proofs.checked.lookup.Statement.{statement}
 use Rattle.numbers.proofs.checked.lookup.Tie as tie
 
 returns : tie.Need-returns
-unfolding lookup floatAnswer number
-returns c = rw (ne-eqb _ _ (c .if1 .taken))
-
-all-finite-requires : tie.Need-all-finite-requires
-all-finite-requires c κs = search needs
-
-is-lookup-wavelength-requires : tie.Need-is-lookup-wavelength-requires
-is-lookup-wavelength-requires c κs = search needs
-
-sample-one-requires : tie.Need-sample-one-requires
-sample-one-requires c κs = search needs
+unfolding lookup floatAnswer verdict _▷_
+returns c =
+    let p1 = c .before .before .before in
+    rw (← p1 .before .before .check-table .ensures, ← p1 .before .check-lookup .ensures, ← p1 .then .ensures, c .before .why .given .1)
 
 returns-2 : tie.Need-returns-2
-unfolding lookup floatAnswer number
-returns-2 c = rw (c .before .before .before .before .before .if1 .left, ← c .before .before .before .before .all-finite .ensures, c .before .before .before .if2 .taken, ← c .before .before .is-lookup-wavelength .ensures, c .before .if3 .taken, ← c .sample-one .ensures)
-
-returns-3 : tie.Need-returns-3
-unfolding lookup floatAnswer number
-returns-3 c = rw (c .before .before .before .before .if1 .left, ← c .before .before .before .all-finite .ensures, c .before .before .if2 .taken, ← c .before .is-lookup-wavelength .ensures, c .if3 .left)
-
-returns-4 : tie.Need-returns-4
-unfolding lookup floatAnswer number
-returns-4 c = rw (c .before .before .if1 .left, ← c .before .all-finite .ensures, c .if2 .left)
+unfolding lookup floatAnswer verdict _▷_
+returns-2 c =
+    let p1 = c .before .before .before in
+    rw (← p1 .before .before .check-table .ensures, ← p1 .before .check-lookup .ensures, ← p1 .then .ensures, c .before .enum-told .given .1, ← c .sample-one .ensures)
 
 pub lookup-spec : {M : Type 1} → statement M
 lookup-spec =
     tie.close
     (tie.spec
-    returns
-    all-finite-requires
-    is-lookup-wavelength-requires
-    sample-one-requires
-    returns-2
-    returns-3
-    returns-4)
+    (λ c κs. search needs) (λ c κs. search needs) (λ c κs. search needs) (λ c. search needs) returns (λ c. search needs) (λ c κs. search needs)
+    returns-2)

@@ -1,38 +1,25 @@
--- `numbers::checked::same_hemisphere` meets its contract: each answer is the definition's, by the tests on the way.
+-- `numbers::checked::same_hemisphere` meets its contract: refused as the checks say, or the value.
 use borrow.Author.Needs.{needs}
+use Rattle.numbers.specs.Refusal.{verdict, _▷_}
 use Rattle.numbers.specs.Checked.{hemisphere, ofDirections, boolAnswer}
-use Rattle.numbers.specs.Refusal.{number}
 use Rattle.numbers.proofs.checked.same_hemisphere.Statement.{statement}
 use Rattle.numbers.proofs.checked.same_hemisphere.Tie as tie
 
-is-direction-requires : tie.Need-is-direction-requires
-is-direction-requires c κs = search needs
-
-is-direction-requires-2 : tie.Need-is-direction-requires-2
-is-direction-requires-2 c κs = search needs
-
-same-hemisphere-requires : tie.Need-same-hemisphere-requires
-same-hemisphere-requires c κs = search needs
-
 returns : tie.Need-returns
-unfolding hemisphere ofDirections boolAnswer number
-returns c = rw (← c .before .before .before .before .is-direction .ensures, c .before .before .before .if1 .taken, ← c .before .before .is-direction2 .ensures, c .before .if2 .taken, ← c .same-hemisphere .ensures)
+unfolding hemisphere ofDirections boolAnswer verdict _▷_
+returns c =
+    let p1 = c .before .before .before in
+    rw (← p1 .before .before .check-direction .ensures, ← p1 .before .check-direction2 .ensures, ← p1 .then .ensures, c .before .why .given .1)
 
 returns-2 : tie.Need-returns-2
-unfolding hemisphere ofDirections boolAnswer number
-returns-2 c = rw (← c .before .before .before .is-direction .ensures, c .before .before .if1 .taken, ← c .before .is-direction2 .ensures, c .if2 .left)
-
-returns-3 : tie.Need-returns-3
-unfolding hemisphere ofDirections boolAnswer number
-returns-3 c = rw (← c .before .is-direction .ensures, c .if1 .left)
+unfolding hemisphere ofDirections boolAnswer verdict _▷_
+returns-2 c =
+    let p1 = c .before .before .before in
+    rw (← p1 .before .before .check-direction .ensures, ← p1 .before .check-direction2 .ensures, ← p1 .then .ensures, c .before .enum-told .given .1, ← c .same-hemisphere .ensures)
 
 pub same-hemisphere-spec : {M : Type 1} → statement M
 same-hemisphere-spec =
     tie.close
     (tie.spec
-    is-direction-requires
-    is-direction-requires-2
-    same-hemisphere-requires
-    returns
-    returns-2
-    returns-3)
+    (λ c κs. search needs) (λ c κs. search needs) (λ c κs. search needs) (λ c. search needs) returns (λ c. search needs) (λ c κs. search needs)
+    returns-2)

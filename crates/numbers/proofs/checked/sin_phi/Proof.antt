@@ -1,23 +1,17 @@
--- `numbers::checked::sin_phi` meets its contract: each answer is the definition's, by the tests on the way.
+-- `numbers::checked::sin_phi` meets its contract: refused as the check says, or the value.
 use borrow.Author.Needs.{needs}
+use Rattle.numbers.specs.Refusal.{verdict, _▷_}
 use Rattle.numbers.specs.Checked.{ofDirection, floatAnswer}
-use Rattle.numbers.specs.Refusal.{number}
 use Rattle.numbers.proofs.checked.sin_phi.Statement.{statement}
 use Rattle.numbers.proofs.checked.sin_phi.Tie as tie
 
-is-direction-requires : tie.Need-is-direction-requires
-is-direction-requires c κs = search needs
-
-sin-phi-requires : tie.Need-sin-phi-requires
-sin-phi-requires c κs = search needs
-
 returns : tie.Need-returns
-unfolding ofDirection floatAnswer number
-returns c = rw (← c .before .before .is-direction .ensures, c .before .if1 .taken, ← c .sin-phi .ensures)
+unfolding ofDirection floatAnswer verdict _▷_
+returns c = rw (← c .before .before .before .check-direction .ensures, c .before .why .given .1)
 
 returns-2 : tie.Need-returns-2
-unfolding ofDirection floatAnswer number
-returns-2 c = rw (← c .before .is-direction .ensures, c .if1 .left)
+unfolding ofDirection floatAnswer verdict _▷_
+returns-2 c = rw (← c .before .before .before .check-direction .ensures, c .before .enum-told .given .1, ← c .sin-phi .ensures)
 
 pub sin-phi-spec : {M : Type 1} → statement M
-sin-phi-spec = tie.close (tie.spec is-direction-requires sin-phi-requires returns returns-2)
+sin-phi-spec = tie.close (tie.spec (λ c κs. search needs) (λ c. search needs) returns (λ c. search needs) (λ c κs. search needs) returns-2)

@@ -1,123 +1,30 @@
--- `optics::checked::sample_normal` meets its contract: the calls give what their contracts promise, and the definition is read in the same order.
-use Rattle.numbers.specs.Checked.{vec3Answer}
-use Rattle.optics.specs.Checked.{sampleNormal, _▷_, verdict}
+-- `optics::checked::sample_normal` meets its contract: refused as the checks say, or the value.
 use borrow.Author.Needs.{needs}
+use Rattle.numbers.specs.Refusal.{verdict, _▷_}
+use Rattle.numbers.specs.Checked.{vec3Answer}
+use Rattle.optics.specs.Checked.{sampleNormal}
 use Rattle.optics.proofs.checked.sample_normal.Statement.{statement}
 use Rattle.optics.proofs.checked.sample_normal.Tie as tie
 
-check-surface-requires : tie.Need-check-surface-requires
-check-surface-requires c κs = search needs
-
-enum-known-why : tie.Need-enum-known-why
-enum-known-why c = search needs
-
 returns : tie.Need-returns
-unfolding sampleNormal vec3Answer _▷_ verdict
-returns c = rw (← c .before .before .before .check-surface .ensures, c .before .why .given .1)
-
-enum-told : tie.Need-enum-told
-enum-told c = search needs
-
-check-direction-requires : tie.Need-check-direction-requires
-check-direction-requires c κs = search needs
-
-enum-known-why-2 : tie.Need-enum-known-why-2
-enum-known-why-2 c = search needs
+unfolding sampleNormal vec3Answer verdict _▷_
+returns c =
+    let p1 = c .before .before .before in
+    let p2 = p1 .before .before .before in
+    let p3 = p2 .before .before .before in
+    rw (← p3 .check-surface .ensures, ← p2 .before .before .check-direction .ensures, ← p2 .before .then .ensures, ← p2 .check-random .ensures, ← p1 .before .before .then2 .ensures, ← p1 .before .check-circle-pair .ensures, ← p1 .then3 .ensures, c .before .check .given .1)
 
 returns-2 : tie.Need-returns-2
-unfolding sampleNormal vec3Answer _▷_ verdict
+unfolding sampleNormal vec3Answer verdict _▷_
 returns-2 c =
-    rw (
-      ← c .before .before .before .before .before .before .check-surface .ensures,
-      c .before .before .before .before .enum-told .given .1,
-      ← c .before .before .before .check-direction .ensures,
-      c .before .why2 .given .1,
-    )
-
-enum-told-2 : tie.Need-enum-told-2
-enum-told-2 c = search needs
-
-check-random-requires : tie.Need-check-random-requires
-check-random-requires c κs = search needs
-
-enum-known-why-3 : tie.Need-enum-known-why-3
-enum-known-why-3 c = search needs
-
-returns-3 : tie.Need-returns-3
-unfolding sampleNormal vec3Answer _▷_ verdict
-returns-3 c =
-    rw (
-      ← c .before .before .before .before .before .before .before .before .before .check-surface .ensures,
-      c .before .before .before .before .before .before .before .enum-told .given .1,
-      ← c .before .before .before .before .before .before .check-direction .ensures,
-      c .before .before .before .before .enum-told2 .given .1,
-      ← c .before .before .before .check-random .ensures,
-      c .before .why3 .given .1,
-    )
-
-enum-told-3 : tie.Need-enum-told-3
-enum-told-3 c = search needs
-
-check-circle-pair-requires : tie.Need-check-circle-pair-requires
-check-circle-pair-requires c κs = search needs
-
-enum-known-why-4 : tie.Need-enum-known-why-4
-enum-known-why-4 c = search needs
-
-returns-4 : tie.Need-returns-4
-unfolding sampleNormal vec3Answer _▷_ verdict
-returns-4 c =
-    rw (
-      ← c .before .before .before .before .before .before .before .before .before .before .before .before .check-surface .ensures,
-      c .before .before .before .before .before .before .before .before .before .before .enum-told .given .1,
-      ← c .before .before .before .before .before .before .before .before .before .check-direction .ensures,
-      c .before .before .before .before .before .before .before .enum-told2 .given .1,
-      ← c .before .before .before .before .before .before .check-random .ensures,
-      c .before .before .before .before .enum-told3 .given .1,
-      ← c .before .before .before .check-circle-pair .ensures,
-      c .before .why4 .given .1,
-    )
-
-enum-told-4 : tie.Need-enum-told-4
-enum-told-4 c = search needs
-
-sample-normal-requires : tie.Need-sample-normal-requires
-sample-normal-requires c κs = search needs
-
-returns-5 : tie.Need-returns-5
-unfolding sampleNormal vec3Answer _▷_ verdict
-returns-5 c =
-    rw (
-      ← c .before .before .before .before .before .before .before .before .before .before .before .before .check-surface .ensures,
-      c .before .before .before .before .before .before .before .before .before .before .enum-told .given .1,
-      ← c .before .before .before .before .before .before .before .before .before .check-direction .ensures,
-      c .before .before .before .before .before .before .before .enum-told2 .given .1,
-      ← c .before .before .before .before .before .before .check-random .ensures,
-      c .before .before .before .before .enum-told3 .given .1,
-      ← c .before .before .before .check-circle-pair .ensures,
-      c .before .enum-told4 .given .1,
-      ← c .sample-normal .ensures,
-    )
+    let p1 = c .before .before .before .before in
+    let p2 = p1 .before .before .before in
+    let p3 = p2 .before .before .before in
+    rw (← p3 .check-surface .ensures, ← p2 .before .before .check-direction .ensures, ← p2 .before .then .ensures, ← p2 .check-random .ensures, ← p1 .before .before .then2 .ensures, ← p1 .before .check-circle-pair .ensures, ← p1 .then3 .ensures, c .before .before .enum-told .given .1, ← c .sample-normal .ensures)
 
 pub sample-normal-spec : {M : Type 1} → statement M
 sample-normal-spec =
     tie.close
     (tie.spec
-    check-surface-requires
-    enum-known-why
-    returns
-    enum-told
-    check-direction-requires
-    enum-known-why-2
-    returns-2
-    enum-told-2
-    check-random-requires
-    enum-known-why-3
-    returns-3
-    enum-told-3
-    check-circle-pair-requires
-    enum-known-why-4
-    returns-4
-    enum-told-4
-    sample-normal-requires
-    returns-5)
+    (λ c κs. search needs) (λ c κs. search needs) (λ c κs. search needs) (λ c κs. search needs) (λ c κs. search needs) (λ c κs. search needs)
+    (λ c κs. search needs) (λ c. search needs) returns (λ c. search needs) (λ c κs. search needs) returns-2)

@@ -1,5 +1,5 @@
 -- `optics::microfacet::azimuth` meets its contract: the calls give what their contracts promise, and the definition is read in the same order.
-use Rattle.optics.specs.Facets.{azimuth}
+use Rattle.optics.specs.SharedTerms.{azimuth}
 use lib.Ieee.{ofBits, neg}
 use borrow.Author.Needs.{needs}
 use Rattle.optics.proofs.microfacet.azimuth.Statement.{statement}

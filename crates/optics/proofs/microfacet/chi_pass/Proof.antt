@@ -1,6 +1,6 @@
--- `optics::microfacet::chi_pass` meets its contract: the calls give what their contracts promise, and the definition is read in the same order.
-use Rattle.optics.specs.Facets.{chiPass}
+-- `optics::microfacet::chi_pass` meets its contract: from the cosine, by `chi-pass`.
 use borrow.Author.Needs.{needs}
+use Rattle.optics.proofs.SharedTerms.{chi-pass}
 use Rattle.optics.proofs.microfacet.chi_pass.Statement.{statement}
 use Rattle.optics.proofs.microfacet.chi_pass.Tie as tie
 
@@ -11,8 +11,7 @@ chi-pass-at-requires : tie.Need-chi-pass-at-requires
 chi-pass-at-requires c κs = search needs
 
 returns : tie.Need-returns
-unfolding chiPass
-returns c = rw (← c .before .dot .ensures, ← c .chi-pass-at .ensures)
+returns c = rw (← chi-pass, ← c .before .dot .ensures, ← c .chi-pass-at .ensures)
 
 pub chi-pass-spec : {M : Type 1} → statement M
 chi-pass-spec = tie.close (tie.spec dot-requires chi-pass-at-requires returns)

@@ -1,7 +1,7 @@
 -- `optics::microfacet::chi_pass_at` meets its contract: the calls give what their contracts promise, and the definition is read in the same order.
 use Rattle.numbers.specs.Float.{epsilon, decimal}
 use Rattle.numbers.specs.SphericalUtils.{cosTheta}
-use Rattle.optics.specs.Facets.{chiPassAt}
+use Rattle.optics.specs.SharedTerms.{chiPassAt}
 use lib.Ieee.{ofBits}
 use borrow.Author.Needs.{needs}
 use Rattle.optics.proofs.microfacet.chi_pass_at.Statement.{statement}

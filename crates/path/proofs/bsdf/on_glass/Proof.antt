@@ -4,7 +4,7 @@ use lib.Ieee.{ofBits}
 use Rattle.optics.specs.Bxdf.{rest, sampled}
 use Rattle.optics.specs.Density.{pdf, pdfOf}
 use Rattle.path.specs.Answer.{onSurface, worked, shares, sharesOn, branchOf, density, outcome}
-use Rattle.path.specs.Bounce.{advanced, lambdaOn, leftOn, scatter, scatterOn, localWo, leadingEta, facet, facetOf, share, weights, weightFrom, filtered, fresnelAt, shadowing, oneDirection}
+use Rattle.path.specs.Bounce.{advanced, lambdaOn, leftOn, scatter, scatterOn, localWo, leadingEta, facet, facetOf, share, weights, weightFrom, filter, fresnelAt, shadowingOn, oneDirection}
 use Rattle.path.proofs.Direction.{no-direction, no-weight}
 use Rattle.path.proofs.bsdf.on_glass.Statement.{statement}
 use Rattle.path.proofs.bsdf.on_glass.Tie as tie
@@ -49,7 +49,7 @@ returns c =
     let at-sample-from = at-match .before in
     let at-f-at = at-sample-from .before in
     let at-normal = at-f-at .before in
-    let at-to-local = at-normal .before in
+    let at-to-local = at-normal .before .before in
     let at-new = at-to-local .before in
     let at-k-at = at-new .before in
     let at-eta-at = at-k-at .before in
@@ -65,7 +65,7 @@ returns c =
     let share-of = at-f-at .f-at .ensures in
     let none = at-match .match .keys2 in
     rw (
-      at-pre .pre,
+      at-pre .pre .0,
       ← at-left-on-glass .left-on-glass .ensures,
       ← leading,
       ← index,
@@ -106,7 +106,7 @@ weighed-requires : tie.Need-weighed-requires
 weighed-requires c κs = search needs
 
 returns-2 : tie.Need-returns-2
-unfolding onSurface lambdaOn leftOn scatter scatterOn localWo leadingEta facet facetOf share fresnelAt shares sharesOn rest advanced weights ofBits worked weightFrom branchOf density pdf pdfOf filtered shadowing oneDirection outcome sampled
+unfolding onSurface lambdaOn leftOn scatter scatterOn localWo leadingEta facet facetOf share fresnelAt shares sharesOn rest advanced weights ofBits worked weightFrom branchOf density pdf pdfOf filter shadowingOn oneDirection outcome sampled
 returns-2 c =
     let at-weights = c .before in
     let at-if1 = at-weights .before in
@@ -117,7 +117,7 @@ returns-2 c =
     let at-sample-from = at-wi .before .before in
     let at-f-at = at-sample-from .before in
     let at-normal = at-f-at .before in
-    let at-to-local = at-normal .before in
+    let at-to-local = at-normal .before .before in
     let at-new = at-to-local .before in
     let at-k-at = at-new .before in
     let at-eta-at = at-k-at .before in
@@ -132,7 +132,7 @@ returns-2 c =
     let wh = at-normal .normal .ensures in
     let share-of = at-f-at .f-at .ensures in
     rw (
-      at-pre .pre,
+      at-pre .pre .0,
       ← at-left-on-glass .left-on-glass .ensures,
       ← leading,
       ← index,
@@ -166,7 +166,7 @@ weighed-requires-2 : tie.Need-weighed-requires-2
 weighed-requires-2 c κs = search needs
 
 returns-3 : tie.Need-returns-3
-unfolding onSurface lambdaOn leftOn scatter scatterOn localWo leadingEta facet facetOf share fresnelAt shares sharesOn rest advanced weights ofBits worked weightFrom branchOf density pdf pdfOf filtered shadowing oneDirection outcome sampled
+unfolding onSurface lambdaOn leftOn scatter scatterOn localWo leadingEta facet facetOf share fresnelAt shares sharesOn rest advanced weights ofBits worked weightFrom branchOf density pdf pdfOf filter shadowingOn oneDirection outcome sampled
 returns-3 c =
     let at-weights2 = c .before in
     let at-if1 = at-weights2 .before in
@@ -177,7 +177,7 @@ returns-3 c =
     let at-sample-from = at-wi .before .before in
     let at-f-at = at-sample-from .before in
     let at-normal = at-f-at .before in
-    let at-to-local = at-normal .before in
+    let at-to-local = at-normal .before .before in
     let at-new = at-to-local .before in
     let at-k-at = at-new .before in
     let at-eta-at = at-k-at .before in
@@ -192,7 +192,7 @@ returns-3 c =
     let wh = at-normal .normal .ensures in
     let share-of = at-f-at .f-at .ensures in
     rw (
-      at-pre .pre,
+      at-pre .pre .0,
       ← at-left-on-glass .left-on-glass .ensures,
       ← leading,
       ← index,

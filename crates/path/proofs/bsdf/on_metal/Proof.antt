@@ -4,7 +4,7 @@ use Rattle.optics.specs.Bxdf.{sampled}
 use Rattle.optics.specs.Density.{pdf, pdfOf}
 use Rattle.optics.specs.Fresnel.{f}
 use Rattle.path.specs.Answer.{onSurface, worked, shares, sharesOn, branchOf, density, outcome}
-use Rattle.path.specs.Bounce.{advanced, lambdaOn, leftOn, scatter, scatterOn, localWo, facet, facetOf, weights, weightFrom, filtered, fresnelAt, shadowing, oneDirection}
+use Rattle.path.specs.Bounce.{advanced, lambdaOn, leftOn, scatter, scatterOn, localWo, facet, facetOf, weights, weightFrom, filter, fresnelAt, shadowingOn, oneDirection}
 use Rattle.path.proofs.Direction.{no-direction, no-weight, metal-reflects}
 use Rattle.path.proofs.bsdf.on_metal.Statement.{statement}
 use Rattle.path.proofs.bsdf.on_metal.Tie as tie
@@ -43,7 +43,7 @@ returns-2 c =
     let at-match = c .before in
     let at-sample-from = at-match .before in
     let at-normal = at-sample-from .before in
-    let at-to-local = at-normal .before in
+    let at-to-local = at-normal .before .before in
     let at-new = at-to-local .before in
     let at-if1 = at-new .before in
     let at-pre = at-if1 .before .before .before in
@@ -85,7 +85,7 @@ weighed-requires : tie.Need-weighed-requires
 weighed-requires c κs = search needs
 
 returns-3 : tie.Need-returns-3
-unfolding onSurface lambdaOn leftOn scatter scatterOn localWo facet facetOf shares sharesOn advanced weights worked weightFrom branchOf density pdf pdfOf filtered fresnelAt shadowing oneDirection outcome sampled f
+unfolding onSurface lambdaOn leftOn scatter scatterOn localWo facet facetOf shares sharesOn advanced weights worked weightFrom branchOf density pdf pdfOf filter fresnelAt shadowingOn oneDirection outcome sampled f
 returns-3 c =
     let at-weights = c .before in
     let at-density-of = at-weights .before in
@@ -96,7 +96,7 @@ returns-3 c =
     let at-wi = at-seen .before .before in
     let at-sample-from = at-wi .before .before in
     let at-normal = at-sample-from .before in
-    let at-to-local = at-normal .before in
+    let at-to-local = at-normal .before .before in
     let at-new = at-to-local .before in
     let at-if1 = at-new .before in
     let at-pre = at-if1 .before .before .before in

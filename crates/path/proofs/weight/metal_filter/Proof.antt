@@ -1,5 +1,6 @@
 -- `path::weight::metal_filter` meets its contract: the calls give what their contracts promise, and the definition is read in the same order.
 use borrow.Author.Needs.{needs}
+use Rattle.path.specs.Bounce.{metalFilter}
 use Rattle.path.proofs.weight.metal_filter.Statement.{statement}
 use Rattle.path.proofs.weight.metal_filter.Tie as tie
 
@@ -16,6 +17,7 @@ metal-share-requires-4 : tie.Need-metal-share-requires-4
 metal-share-requires-4 c κs = search needs
 
 returns : tie.Need-returns
+unfolding metalFilter
 returns c =
     let at-metal-share4 = c .before in
     let at-metal-share3 = at-metal-share4 .before .before in

@@ -1,19 +1,33 @@
--- `path::weight::shadowing` meets its contract: the calls give what their contracts promise, and the definition is read in the same order.
+-- `path::weight::shadowing` meets its contract: Λ(wo) and wo · wh handed on change nothing, by `g-over-g1-at`.
 use lib.Ieee.{ofBits}
 use borrow.Author.Needs.{needs}
+use Rattle.optics.proofs.SharedTerms.{g-over-g1-at}
+use Rattle.path.specs.Bounce.{shadowing}
 use Rattle.path.proofs.weight.shadowing.Statement.{statement}
 use Rattle.path.proofs.weight.shadowing.Tie as tie
 
 returns : tie.Need-returns
-unfolding ofBits
+unfolding shadowing ofBits
 returns c = rw (c .if1 .taken)
 
-g-over-g1-with-requires : tie.Need-g-over-g1-with-requires
-g-over-g1-with-requires c κs = search needs
+dot-requires : tie.Need-dot-requires
+dot-requires c κs = search needs
+
+g-over-g1-at-requires : tie.Need-g-over-g1-at-requires
+g-over-g1-at-requires c κs = search needs
 
 returns-2 : tie.Need-returns-2
-unfolding ofBits
-returns-2 c = rw (c .before .if1 .left, ← c .g-over-g1-with .ensures)
+unfolding shadowing
+returns-2 c =
+    let at-dot = c .before in
+    let at-if1 = at-dot .before in
+    rw (
+      c .g-over-g1-at .ensures,
+      at-dot .dot .ensures,
+      at-if1 .before .pre,
+      at-if1 .if1 .left,
+      g-over-g1-at,
+    )
 
 pub shadowing-spec : {M : Type 1} → statement M
-shadowing-spec = tie.close (tie.spec returns g-over-g1-with-requires returns-2)
+shadowing-spec = tie.close (tie.spec returns dot-requires g-over-g1-at-requires returns-2)

@@ -1,14 +1,15 @@
 -- `path::weight::weight` meets its contract: the calls give what their contracts promise, and the definition is read in the same order.
 use lib.Ieee.{ofBits}
+use Rattle.path.specs.Bounce.{weight}
 use Rattle.path.proofs.weight.weight.Statement.{statement}
 use Rattle.path.proofs.weight.weight.Tie as tie
 
 returns : tie.Need-returns
-unfolding ofBits
+unfolding weight ofBits
 returns c = rw (c .if1 .taken)
 
 returns-2 : tie.Need-returns-2
-unfolding ofBits
+unfolding weight ofBits
 returns-2 c = rw (c .if1 .left)
 
 pub weight-spec : {M : Type 1} → statement M

@@ -1,7 +1,7 @@
 -- `rulvimba::paths::load` meets its contract: the eight numbers in their places.
 use mathlib.Core.Path.{refl}
 use borrow.Author.Needs.{needs}
-use Rattle.rulvimba.specs.Paths.{pathIn}
+use Rattle.path.specs.Many.{pathIn}
 use Rattle.rulvimba.proofs.paths.load.Statement.{statement}
 use Rattle.rulvimba.proofs.paths.load.Tie as tie
 

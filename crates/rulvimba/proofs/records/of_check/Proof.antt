@@ -1,6 +1,6 @@
 -- `rulvimba::records::of_check` meets its contract: each case is laid out as the definition has it.
 use borrow.Author.Needs.{needs}
-use Rattle.optics.specs.Checked.{verdict}
+use Rattle.numbers.specs.Refusal.{verdict}
 use Rattle.rulvimba.specs.Results.{checkNumber}
 use Rattle.rulvimba.proofs.records.of_check.Statement.{statement}
 use Rattle.rulvimba.proofs.records.of_check.Tie as tie

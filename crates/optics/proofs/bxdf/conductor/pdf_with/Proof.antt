@@ -1,8 +1,8 @@
--- `optics::bxdf::conductor::pdf_with` meets its contract: the calls give what their contracts promise, and the one cosine wo · wh stands for wh · wo, by `one-cosine`.
-use Rattle.optics.specs.Density.{conductorPdfWith, conductorHalf, mirroredPdf}
+-- `optics::bxdf::conductor::pdf_with` meets its contract: the calls give what their contracts promise, and the definition is read in the same order.
+use Rattle.optics.specs.Density.{conductorPdfFrom, conductorHalf, mirroredPdf}
+use Rattle.optics.specs.SharedTerms.{conductorPdfWith}
 use lib.Ieee.{ofBits}
 use borrow.Author.Needs.{needs}
-use Rattle.optics.proofs.Cosine.{one-cosine}
 use Rattle.optics.proofs.bxdf.conductor.pdf_with.Statement.{statement}
 use Rattle.optics.proofs.bxdf.conductor.pdf_with.Tie as tie
 
@@ -25,7 +25,7 @@ at-z-requires : tie.Need-at-z-requires
 at-z-requires c κs = search needs
 
 returns : tie.Need-returns
-unfolding conductorPdfWith conductorHalf mirroredPdf ofBits
+unfolding conductorPdfWith conductorPdfFrom conductorHalf mirroredPdf ofBits
 returns c =
     rw (
       ← c .before .before .before .before .before .before .before .same-hemisphere .ensures,
@@ -48,7 +48,7 @@ abs-requires : tie.Need-abs-requires
 abs-requires c κs = search needs
 
 returns-2 : tie.Need-returns-2
-unfolding conductorPdfWith conductorHalf mirroredPdf ofBits
+unfolding conductorPdfWith conductorPdfFrom conductorHalf mirroredPdf ofBits
 returns-2 c =
     rw (
       ← c .before .before .before .before .before .before .before .before .before .same-hemisphere .ensures,
@@ -58,14 +58,13 @@ returns-2 c =
       ← c .before .before .before .before .before .on-z-side .ensures,
       ← c .before .before .before .before .is-delta .ensures,
       c .before .before .before .if2 .left,
-      ← one-cosine,
       ← c .before .before .dot .ensures,
       ← c .before .sample-normal-pdf-at .ensures,
       ← c .abs .ensures,
     )
 
 returns-3 : tie.Need-returns-3
-unfolding conductorPdfWith conductorHalf mirroredPdf ofBits
+unfolding conductorPdfWith conductorPdfFrom conductorHalf mirroredPdf ofBits
 returns-3 c = rw (← c .before .same-hemisphere .ensures, c .if1 .left)
 
 pub pdf-with-spec : {M : Type 1} → statement M

@@ -1,10 +1,9 @@
--- `optics::bxdf::dielectric::passed_pdf` meets its contract: the calls give what their contracts promise, and the one cosine wo · wh stands for wh · wo, by `one-cosine`.
+-- `optics::bxdf::dielectric::passed_pdf` meets its contract: the calls give what their contracts promise, and the definition is read in the same order.
 use Rattle.numbers.specs.Float.{powi2}
 use Rattle.optics.specs.Bxdf.{rest}
-use Rattle.optics.specs.Density.{passedPdf}
+use Rattle.optics.specs.Density.{passedPdf, bentPdf}
 use lib.Ieee.{ofBits}
 use borrow.Author.Needs.{needs}
-use Rattle.optics.proofs.Cosine.{one-cosine}
 use Rattle.optics.proofs.bxdf.dielectric.passed_pdf.Statement.{statement}
 use Rattle.optics.proofs.bxdf.dielectric.passed_pdf.Tie as tie
 
@@ -15,7 +14,7 @@ at-z-requires : tie.Need-at-z-requires
 at-z-requires c κs = search needs
 
 returns : tie.Need-returns
-unfolding passedPdf rest powi2 ofBits
+unfolding passedPdf bentPdf rest powi2 ofBits
 returns c = rw (← c .before .before .is-smooth .ensures, c .before .if1 .taken, ← c .at-z .ensures)
 
 sample-normal-pdf-at-requires : tie.Need-sample-normal-pdf-at-requires
@@ -25,12 +24,11 @@ abs-requires : tie.Need-abs-requires
 abs-requires c κs = search needs
 
 returns-2 : tie.Need-returns-2
-unfolding passedPdf rest powi2 ofBits
+unfolding passedPdf bentPdf rest powi2 ofBits
 returns-2 c =
     rw (
       ← c .before .before .before .is-smooth .ensures,
       c .before .before .if1 .left,
-      ← one-cosine,
       ← c .before .before .before .before .pre .0,
       ← c .before .before .before .before .pre .1,
       ← c .before .sample-normal-pdf-at .ensures,

@@ -1,6 +1,6 @@
 -- `optics::bxdf::dielectric::pdf_at` meets its contract: the calls give what their contracts promise, and the definition is read in the same order.
 use mathlib.Core.Path.{refl}
-use Rattle.optics.specs.Density.{dielectricAt}
+use Rattle.optics.specs.Density.{dielectricPdfFrom}
 use Rattle.optics.specs.Fresnel.{fAt}
 use lib.Ieee.{ofBits}
 use borrow.Author.Needs.{needs}
@@ -17,7 +17,7 @@ is-discarded-requires : tie.Need-is-discarded-requires
 is-discarded-requires c κs = search needs
 
 returns : tie.Need-returns
-unfolding dielectricAt fAt ofBits
+unfolding dielectricPdfFrom fAt ofBits
 returns c =
     rw (
       ← c .before .before .before .dot .ensures,
@@ -33,7 +33,7 @@ reflected-pdf-requires : tie.Need-reflected-pdf-requires
 reflected-pdf-requires c κs = search needs
 
 returns-2 : tie.Need-returns-2
-unfolding dielectricAt fAt ofBits
+unfolding dielectricPdfFrom fAt ofBits
 returns-2 c =
     rw (
       ← c .before .before .before .before .before .before .dot .ensures,
@@ -49,7 +49,7 @@ passed-pdf-requires : tie.Need-passed-pdf-requires
 passed-pdf-requires c κs = search needs
 
 returns-3 : tie.Need-returns-3
-unfolding dielectricAt fAt ofBits
+unfolding dielectricPdfFrom fAt ofBits
 returns-3 c =
     rw (
       ← c .before .before .before .before .before .before .dot .ensures,

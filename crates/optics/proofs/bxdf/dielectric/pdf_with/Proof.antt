@@ -1,5 +1,5 @@
 -- `optics::bxdf::dielectric::pdf_with` meets its contract: the calls give what their contracts promise, and the definition is read in the same order.
-use Rattle.optics.specs.Density.{dielectricPdfWith}
+use Rattle.optics.specs.SharedTerms.{dielectricPdfWith}
 use borrow.Author.Needs.{needs}
 use Rattle.optics.proofs.bxdf.dielectric.pdf_with.Statement.{statement}
 use Rattle.optics.proofs.bxdf.dielectric.pdf_with.Tie as tie

@@ -1,10 +1,9 @@
--- `optics::bxdf::dielectric::reflected_pdf` meets its contract: the calls give what their contracts promise, and the one cosine wo · wh stands for wh · wo, by `one-cosine`.
+-- `optics::bxdf::dielectric::reflected_pdf` meets its contract: the calls give what their contracts promise, and the definition is read in the same order.
 use mathlib.Core.Path.{refl}
 use Rattle.optics.specs.Bxdf.{rest}
 use Rattle.optics.specs.Density.{reflectedPdf, mirroredPdf}
 use lib.Ieee.{ofBits}
 use borrow.Author.Needs.{needs}
-use Rattle.optics.proofs.Cosine.{one-cosine}
 use Rattle.optics.proofs.bxdf.dielectric.reflected_pdf.Statement.{statement}
 use Rattle.optics.proofs.bxdf.dielectric.reflected_pdf.Tie as tie
 
@@ -30,7 +29,6 @@ returns-2 c =
     rw (
       ← c .before .before .before .is-smooth .ensures,
       c .before .before .if1 .left,
-      ← one-cosine,
       ← c .before .before .before .before .pre,
       ← c .before .sample-normal-pdf-at .ensures,
       ← c .abs .ensures,

@@ -1,8 +1,7 @@
 -- `path::records::Path::start` meets its contract: the calls give what their contracts promise, and the definition is read in the same order.
 use lib.Ieee.{ofBits}
 use borrow.Author.Needs.{needs}
-use Rattle.numbers.specs.Refusal.{number}
-use Rattle.optics.specs.Checked.{refuse, _▷_}
+use Rattle.numbers.specs.Refusal.{number, refuse, _▷_}
 use Rattle.path.specs.Answer.{started}
 use Rattle.path.specs.Path.{start, ones}
 use Rattle.path.proofs.records.Path.start.Statement.{statement}

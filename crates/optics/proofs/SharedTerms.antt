@@ -1,0 +1,86 @@
+-- A term that is computed once and handed on changes nothing: from it each form of specs/SharedTerms.antt is its formula.
+-- The cosine wo · wh stands for wh · wo, by `dot-comm`. Where a surface scatters into one direction its density doesn't read Λ(wo), so
+-- that any number does there (`metal-density`, `glass-density`).
+use mathlib.Core.Path.{_≡_, refl, ap}
+use mathlib.Core.Bool.{Bool, true, false, cond}
+use lib.Ieee.{Float, eq}
+use Rattle.numbers.specs.Float.{_⊕_, _⊘_, f0, f1}
+use Rattle.numbers.specs.SphericalUtils.{sinTheta, cosPhi, sinPhi}
+use Rattle.numbers.specs.Vec3.{dot}
+use Rattle.numbers.specs.declared.vec2.Vec2.{Vec2}
+use Rattle.numbers.specs.declared.vec3.Vec3.{Vec3}
+use Rattle.optics.specs.Facets.{isDelta, lambda, chiPass, masked, g1, g, gOverG1, sampleNormalPdf}
+use Rattle.optics.specs.Bxdf.{isSmooth}
+use Rattle.optics.specs.Density.{conductorHalf, conductorPdfFrom, conductorPdf, etaRatio, dielectricHalf, reflectedPdf, passedPdf, dielectricPdfFrom, dielectricPdf}
+use Rattle.optics.specs.SharedTerms.{azimuth, chiPassAt, g1At, gOverG1At, sampleNormalPdfAt, conductorPdfWith, dielectricPdfWith}
+use Rattle.optics.proofs.Cosine.{dot-comm}
+
+-- ---- the azimuth
+pub cos-phi : (w : Vec3) → cosPhi w ≡ azimuth (w .x) (sinTheta w) f1
+unfolding cosPhi azimuth
+cos-phi w = refl
+
+pub sin-phi : (w : Vec3) → sinPhi w ≡ azimuth (w .y) (sinTheta w) f0
+unfolding sinPhi azimuth
+sin-phi w = refl
+
+-- ---- masking
+pub chi-pass : (wo wh : Vec3) → chiPassAt (dot wo wh) wo wh ≡ chiPass wo wh
+unfolding chiPassAt chiPass
+chi-pass wo wh = refl
+
+pub g1-at : (a : Vec2) (wo wh : Vec3) → g1At (lambda a wo) (dot wo wh) wo wh ≡ g1 a wo wh
+unfolding g1At g1
+g1-at a wo wh = rw (chi-pass wo wh)
+
+pub g-over-g1-at : (a : Vec2) (wo wi wh : Vec3) → gOverG1At a (lambda a wo) (dot wo wh) wo wi wh ≡ gOverG1 a wo wi wh
+unfolding gOverG1At gOverG1 g1 g masked eq
+g-over-g1-at a wo wi wh = rw (chi-pass wo wh) (go (chiPass wo wh))
+  where
+    seen : Float
+    seen = f1 ⊕ lambda a wo
+
+    first : Float
+    first = f1 ⊘ seen
+
+    both : Float
+    both = f1 ⊘ (seen ⊕ lambda a wi)
+
+    go : (chi : Bool) → cond chi (cond (eq first f0) f0 (both ⊘ first)) f0 ≡ cond (eq (cond chi first f0) f0) f0 (cond chi both f0 ⊘ cond chi first f0)
+    go true = refl
+    go false = refl
+
+-- ---- the densities
+pub normal-density : (a : Vec2) (wh wo : Vec3) → sampleNormalPdfAt a (lambda a wo) (dot wo wh) wh wo ≡ sampleNormalPdf a wh wo
+unfolding sampleNormalPdfAt sampleNormalPdf
+normal-density a wh wo = rw (g1-at a wo wh, dot-comm wh wo)
+
+-- from any number l where the surface is delta, else from Λ(wo)
+pub metal-density : (a : Vec2) (l : Float) (wo wi : Vec3) → conductorPdfWith a (cond (isDelta a) l (lambda a wo)) wo wi ≡ conductorPdf a wo wi
+unfolding conductorPdfWith conductorPdf conductorPdfFrom
+metal-density a l wo wi = go (isDelta a)
+  where
+    wh : Vec3
+    wh = conductorHalf wo wi
+
+    go : (delta : Bool) → conductorPdfFrom (sampleNormalPdfAt a (cond delta l (lambda a wo)) (dot wo wh) wh wo) delta wo wi wh
+        ≡ conductorPdfFrom (sampleNormalPdf a wh wo) delta wo wi wh
+    go true = refl
+    go false = rw (normal-density a wh wo)
+
+-- and where the glass is smooth
+pub glass-density : (a : Vec2) (l eta k : Float) (reflection : Bool) (wo wi : Vec3)
+    → dielectricPdfWith a (cond (isSmooth a eta) l (lambda a wo)) eta k reflection wo wi ≡ dielectricPdf a eta k reflection wo wi
+unfolding dielectricPdfWith dielectricPdf dielectricPdfFrom reflectedPdf passedPdf
+glass-density a l eta k reflection wo wi = go (isSmooth a eta)
+  where
+    ratio : Float
+    ratio = etaRatio reflection wo eta
+
+    wh : Vec3
+    wh = dielectricHalf eta ratio wo wi
+
+    go : (smooth : Bool) → dielectricPdfFrom (sampleNormalPdfAt a (cond smooth l (lambda a wo)) (dot wo wh) wh wo) smooth eta k ratio reflection wo wi wh
+        ≡ dielectricPdfFrom (sampleNormalPdf a wh wo) smooth eta k ratio reflection wo wi wh
+    go true = refl
+    go false = rw (normal-density a wh wo)

@@ -1,0 +1,32 @@
+-- `optics::microfacet::Ggx::g` meets its contract: the calls give what their contracts promise, and the definition is read in the same order.
+use Rattle.optics.specs.Facets.{g, masked}
+use lib.Ieee.{ofBits}
+use borrow.Author.Needs.{needs}
+use Rattle.optics.proofs.microfacet.Ggx.g.Statement.{statement}
+use Rattle.optics.proofs.microfacet.Ggx.g.Tie as tie
+
+chi-pass-requires : tie.Need-chi-pass-requires
+chi-pass-requires c κs = search needs
+
+lambda-requires : tie.Need-lambda-requires
+lambda-requires c κs = search needs
+
+lambda-requires-2 : tie.Need-lambda-requires-2
+lambda-requires-2 c κs = search needs
+
+returns : tie.Need-returns
+unfolding g masked ofBits
+returns c =
+    rw (
+      ← c .before .before .before .chi-pass .ensures,
+      c .before .before .if1 .taken,
+      ← c .before .lambda .ensures,
+      ← c .lambda2 .ensures,
+    )
+
+returns-2 : tie.Need-returns-2
+unfolding g masked ofBits
+returns-2 c = rw (← c .before .chi-pass .ensures, c .if1 .left)
+
+pub g-spec : {M : Type 1} → statement M
+g-spec = tie.close (tie.spec chi-pass-requires lambda-requires lambda-requires-2 returns returns-2)

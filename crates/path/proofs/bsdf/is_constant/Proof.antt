@@ -1,0 +1,26 @@
+-- `path::bsdf::is_constant` meets its contract: what is known, or the test.
+use Rattle.path.specs.Bounce.{constantFrom}
+use borrow.Author.Needs.{needs}
+use Rattle.path.proofs.bsdf.is_constant.Statement.{statement}
+use Rattle.path.proofs.bsdf.is_constant.Tie as tie
+
+enum-known-constant : tie.Need-enum-known-constant
+enum-known-constant c = search needs
+
+enum-told : tie.Need-enum-told
+enum-told c = search needs
+
+constant-eta-requires : tie.Need-constant-eta-requires
+constant-eta-requires c κs = search needs
+
+returns : tie.Need-returns
+unfolding constantFrom
+returns c = rw (c .before .constant .given .1)
+
+returns-2 : tie.Need-returns-2
+unfolding constantFrom
+returns-2 c = rw (c .before .enum-told .given .1, ← c .constant-eta .ensures)
+
+pub is-constant-spec : {M : Type 1} → statement M
+is-constant-spec =
+    tie.close (tie.spec enum-known-constant enum-told constant-eta-requires returns returns-2)

@@ -1,0 +1,76 @@
+-- `path::many::step` meets its contract: the part that is lent is the bounce's 27 numbers, and what comes of them is stored.
+use Prim.Native.Nat.{ℕ, _+_, _*_, _-_}
+use mathlib.Core.Path.{_≡_, ap, _∙_}
+use mathlib.Core.List.{List}
+use native.Mathlib.Omega.{arith}
+use lib.Ieee.{Float}
+use lib.ListN.{length, take, drop}
+use lib.Seq.{paste}
+use denote.Ref.{now}
+use borrow.Author.Needs.{needs}
+use Rattle.optics.specs.Surface.{microsurface}
+use Rattle.path.specs.Many.{bounced, bouncedAt}
+use Rattle.path.proofs.ManyBounces.{length-bounced}
+use Rattle.path.proofs.many.step.Statement.{statement}
+use Rattle.path.proofs.many.step.Tie as tie
+
+mul-from : tie.Need-mul-from
+mul-from c = search needs
+
+add-end : tie.Need-add-end
+add-end c = search needs
+
+mul-one : tie.Need-mul-one
+mul-one c = search needs
+
+sub-one : tie.Need-sub-one
+sub-one c = search needs
+
+part-one-start : tie.Need-part-one-start
+part-one-start c = search needs
+
+part-one-end : tie.Need-part-one-end
+part-one-end c = search needs
+
+one-requires : tie.Need-one-requires
+one-requires c κs = search needs
+
+mul-put : tie.Need-mul-put
+mul-put c = search needs
+
+put-requires : tie.Need-put-requires
+put-requires c κs = (omega arith, ap length (c .before .before .one .ensures) ∙ length-bounced _ _)
+
+same-length : tie.Need-same-length
+same-length c = search needs
+
+-- as many as there are from a number up to 27 more
+span : (n : ℕ) → n + 27 - n ≡ 27
+span n = omega arith
+
+returns : tie.Need-returns
+unfolding bouncedAt
+returns c =
+    let at-start = c .before .before .before .before .before .before .before .before .before .before .before in
+    let args = at-start .args in
+    let m = microsurface (args .surface) (now (args .eta)) (now (args .k)) in
+    c .before .before .put .ensures
+    ∙ ap (λ (l : List Float). paste (now (args .output)) (18 * args .i) l 18)
+    (c .before .before .before .before .before .one .ensures
+    ∙ ap (λ (n : ℕ). bounced m (take n (drop (27 * args .i) (now (args .input))))) (span (27 * args .i)))
+
+pub step-spec : {M : Type 1} → statement M
+step-spec =
+    tie.close
+    (tie.spec
+    mul-from
+    add-end
+    mul-one
+    sub-one
+    part-one-start
+    part-one-end
+    one-requires
+    mul-put
+    put-requires
+    same-length
+    returns)
