@@ -20,15 +20,6 @@ abbrev μ-loop : tie.MeasureT-loop
 loop-holds : tie.Need-loop-holds Inv-loop μ-loop
 loop-holds c = (refl, refl, refl, refl, refl)
 
-step-requires : tie.Need-step-requires Inv-loop μ-loop
-step-requires c κs = tt
-
-sub-turns : tie.Need-sub-turns Inv-loop μ-loop
-sub-turns c = omega arith
-
-loop-less : tie.Need-loop-less Inv-loop μ-loop
-loop-less c = omega arith
-
 loop-again : tie.Need-loop-again Inv-loop μ-loop
 loop-again c =
     let inv = c .before .before .before .before .before .before .before .before .before .before .before .before .before .before .before .before .before .before .loop .inv in (
@@ -54,9 +45,6 @@ same-length-4 c = c .before .before .loop .inv .3
 same-length-5 : tie.Need-same-length-5 Inv-loop μ-loop
 same-length-5 c = c .before .before .loop .inv .4
 
-returns : tie.Need-returns Inv-loop μ-loop
-returns c = tt
-
 same-length-6 : tie.Need-same-length-6 Inv-loop μ-loop
 same-length-6 c = c .before .loop .inv .0
 
@@ -72,29 +60,8 @@ same-length-9 c = c .before .loop .inv .3
 same-length-10 : tie.Need-same-length-10 Inv-loop μ-loop
 same-length-10 c = c .before .loop .inv .4
 
-returns-2 : tie.Need-returns-2 Inv-loop μ-loop
-returns-2 c = tt
-
 pub answer-all-spec : {M : Type 1} → statement M
 answer-all-spec =
     tie.close
-    (tie.spec
-    Inv-loop
-    μ-loop
-    loop-holds
-    step-requires
-    sub-turns
-    loop-less
-    loop-again
-    same-length
-    same-length-2
-    same-length-3
-    same-length-4
-    same-length-5
-    returns
-    same-length-6
-    same-length-7
-    same-length-8
-    same-length-9
-    same-length-10
-    returns-2)
+    (tie.spec Inv-loop μ-loop loop-holds (λ c κs. tt) (λ c. omega arith) (λ c. omega arith) loop-again same-length same-length-2 same-length-3
+    same-length-4 same-length-5 (λ c. tt) same-length-6 same-length-7 same-length-8 same-length-9 same-length-10 (λ c. tt))

@@ -10,37 +10,5 @@ Inv-loop buf from end at₀ at = Unit {0}
 abbrev μ-loop : tie.MeasureT-loop
 μ-loop buf from end at₀ at = end - at
 
-loop-holds : tie.Need-loop-holds Inv-loop μ-loop
-loop-holds c = tt
-
-line-feed-at-requires : tie.Need-line-feed-at-requires Inv-loop μ-loop
-line-feed-at-requires c κs = tt
-
-returns : tie.Need-returns Inv-loop μ-loop
-returns c = tt
-
-add-at : tie.Need-add-at Inv-loop μ-loop
-add-at c = omega arith
-
-loop-less : tie.Need-loop-less Inv-loop μ-loop
-loop-less c = omega arith
-
-loop-again : tie.Need-loop-again Inv-loop μ-loop
-loop-again c = tt
-
-returns-2 : tie.Need-returns-2 Inv-loop μ-loop
-returns-2 c = tt
-
 pub line-feed-spec : {M : Type 1} → statement M
-line-feed-spec =
-    tie.close
-    (tie.spec
-    Inv-loop
-    μ-loop
-    loop-holds
-    line-feed-at-requires
-    returns
-    add-at
-    loop-less
-    loop-again
-    returns-2)
+line-feed-spec = tie.close (tie.spec Inv-loop μ-loop (λ c. tt) (λ c κs. tt) (λ c. tt) (λ c. omega arith) (λ c. omega arith) (λ c. tt) (λ c. tt))

@@ -13,32 +13,17 @@ Inv-loop fd entries₀ t₀ turns₀ entries t turns = length entries ≡ length
 abbrev μ-loop : tie.MeasureT-loop
 μ-loop fd entries₀ t₀ turns₀ entries t turns = turns
 
-loop-holds : tie.Need-loop-holds Inv-loop μ-loop
-loop-holds c = refl
-
-step-requires : tie.Need-step-requires Inv-loop μ-loop
-step-requires c κs = tt
-
-sub-turns : tie.Need-sub-turns Inv-loop μ-loop
-sub-turns c = omega arith
-
-loop-less : tie.Need-loop-less Inv-loop μ-loop
-loop-less c = omega arith
-
 loop-again : tie.Need-loop-again Inv-loop μ-loop
 loop-again c = search (needs, c .before .before .before .before .before .before .loop .inv)
 
 same-length : tie.Need-same-length Inv-loop μ-loop
 same-length c = c .before .before .loop .inv
 
-returns : tie.Need-returns Inv-loop μ-loop
-returns c = tt
-
 same-length-2 : tie.Need-same-length-2 Inv-loop μ-loop
 same-length-2 c = c .before .loop .inv
 
-returns-2 : tie.Need-returns-2 Inv-loop μ-loop
-returns-2 c = tt
-
 pub replay-spec : {M : Type 1} → statement M
-replay-spec = tie.close (tie.spec Inv-loop μ-loop loop-holds step-requires sub-turns loop-less loop-again same-length returns same-length-2 returns-2)
+replay-spec =
+    tie.close
+    (tie.spec Inv-loop μ-loop (λ c. refl) (λ c κs. tt) (λ c. omega arith) (λ c. omega arith) loop-again same-length (λ c. tt) same-length-2
+    (λ c. tt))

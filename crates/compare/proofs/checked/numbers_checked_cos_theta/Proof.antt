@@ -5,14 +5,8 @@ use Rattle.compare.specs.Results.{floatResult}
 use Rattle.compare.proofs.checked.numbers_checked_cos_theta.Statement.{statement}
 use Rattle.compare.proofs.checked.numbers_checked_cos_theta.Tie as tie
 
-cos-theta-requires : tie.Need-cos-theta-requires
-cos-theta-requires c κs = search needs
-
-of-float-requires : tie.Need-of-float-requires
-of-float-requires c κs = search needs
-
 returns : tie.Need-returns
 returns c = c .of-float .ensures ∙ ap floatResult (c .before .cos-theta .ensures)
 
 pub numbers-checked-cos-theta-spec : {M : Type 1} → statement M
-numbers-checked-cos-theta-spec = tie.close (tie.spec cos-theta-requires of-float-requires returns)
+numbers-checked-cos-theta-spec = tie.close (tie.spec (λ c κs. search needs) (λ c κs. search needs) returns)

@@ -5,14 +5,8 @@ use Rattle.compare.specs.Results.{onbResult}
 use Rattle.compare.proofs.checked.numbers_checked_onb.Statement.{statement}
 use Rattle.compare.proofs.checked.numbers_checked_onb.Tie as tie
 
-onb-requires : tie.Need-onb-requires
-onb-requires c κs = search needs
-
-of-onb-requires : tie.Need-of-onb-requires
-of-onb-requires c κs = search needs
-
 returns : tie.Need-returns
 returns c = c .of-onb .ensures ∙ ap onbResult (c .before .onb .ensures)
 
 pub numbers-checked-onb-spec : {M : Type 1} → statement M
-numbers-checked-onb-spec = tie.close (tie.spec onb-requires of-onb-requires returns)
+numbers-checked-onb-spec = tie.close (tie.spec (λ c κs. search needs) (λ c κs. search needs) returns)

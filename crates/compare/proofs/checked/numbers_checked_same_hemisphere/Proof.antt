@@ -5,14 +5,8 @@ use Rattle.compare.specs.Results.{boolResult}
 use Rattle.compare.proofs.checked.numbers_checked_same_hemisphere.Statement.{statement}
 use Rattle.compare.proofs.checked.numbers_checked_same_hemisphere.Tie as tie
 
-same-hemisphere-requires : tie.Need-same-hemisphere-requires
-same-hemisphere-requires c κs = search needs
-
-of-bool-requires : tie.Need-of-bool-requires
-of-bool-requires c κs = search needs
-
 returns : tie.Need-returns
 returns c = c .of-bool .ensures ∙ ap boolResult (c .before .same-hemisphere .ensures)
 
 pub numbers-checked-same-hemisphere-spec : {M : Type 1} → statement M
-numbers-checked-same-hemisphere-spec = tie.close (tie.spec same-hemisphere-requires of-bool-requires returns)
+numbers-checked-same-hemisphere-spec = tie.close (tie.spec (λ c κs. search needs) (λ c κs. search needs) returns)

@@ -5,14 +5,8 @@ use Rattle.compare.specs.Results.{floatResult}
 use Rattle.compare.proofs.checked.numbers_checked_sin_phi.Statement.{statement}
 use Rattle.compare.proofs.checked.numbers_checked_sin_phi.Tie as tie
 
-sin-phi-requires : tie.Need-sin-phi-requires
-sin-phi-requires c κs = search needs
-
-of-float-requires : tie.Need-of-float-requires
-of-float-requires c κs = search needs
-
 returns : tie.Need-returns
 returns c = c .of-float .ensures ∙ ap floatResult (c .before .sin-phi .ensures)
 
 pub numbers-checked-sin-phi-spec : {M : Type 1} → statement M
-numbers-checked-sin-phi-spec = tie.close (tie.spec sin-phi-requires of-float-requires returns)
+numbers-checked-sin-phi-spec = tie.close (tie.spec (λ c κs. search needs) (λ c κs. search needs) returns)

@@ -5,14 +5,8 @@ use Rattle.compare.specs.Results.{floatResult}
 use Rattle.compare.proofs.checked.numbers_checked_tan2_theta.Statement.{statement}
 use Rattle.compare.proofs.checked.numbers_checked_tan2_theta.Tie as tie
 
-tan2-theta-requires : tie.Need-tan2-theta-requires
-tan2-theta-requires c κs = search needs
-
-of-float-requires : tie.Need-of-float-requires
-of-float-requires c κs = search needs
-
 returns : tie.Need-returns
 returns c = c .of-float .ensures ∙ ap floatResult (c .before .tan2-theta .ensures)
 
 pub numbers-checked-tan2-theta-spec : {M : Type 1} → statement M
-numbers-checked-tan2-theta-spec = tie.close (tie.spec tan2-theta-requires of-float-requires returns)
+numbers-checked-tan2-theta-spec = tie.close (tie.spec (λ c κs. search needs) (λ c κs. search needs) returns)

@@ -5,14 +5,8 @@ use Rattle.compare.specs.Results.{floatResult}
 use Rattle.compare.proofs.checked.numbers_checked_tan_theta.Statement.{statement}
 use Rattle.compare.proofs.checked.numbers_checked_tan_theta.Tie as tie
 
-tan-theta-requires : tie.Need-tan-theta-requires
-tan-theta-requires c κs = search needs
-
-of-float-requires : tie.Need-of-float-requires
-of-float-requires c κs = search needs
-
 returns : tie.Need-returns
 returns c = c .of-float .ensures ∙ ap floatResult (c .before .tan-theta .ensures)
 
 pub numbers-checked-tan-theta-spec : {M : Type 1} → statement M
-numbers-checked-tan-theta-spec = tie.close (tie.spec tan-theta-requires of-float-requires returns)
+numbers-checked-tan-theta-spec = tie.close (tie.spec (λ c κs. search needs) (λ c κs. search needs) returns)

@@ -3,17 +3,8 @@ use borrow.Author.Needs.{needs}
 use Rattle.compare_path.proofs.bounce.path_bounce.Statement.{statement}
 use Rattle.compare_path.proofs.bounce.path_bounce.Tie as tie
 
-surface-of-requires : tie.Need-surface-of-requires
-surface-of-requires c κs = search needs
-
-bounce-requires : tie.Need-bounce-requires
-bounce-requires c κs = search needs
-
-of-bounced-requires : tie.Need-of-bounced-requires
-of-bounced-requires c κs = search needs
-
 returns : tie.Need-returns
 returns c = rw (c .of-bounced .ensures, c .before .bounce .ensures, c .before .before .surface-of .ensures)
 
 pub path-bounce-spec : {M : Type 1} → statement M
-path-bounce-spec = tie.close (tie.spec surface-of-requires bounce-requires of-bounced-requires returns)
+path-bounce-spec = tie.close (tie.spec (λ c κs. search needs) (λ c κs. search needs) (λ c κs. search needs) returns)

@@ -3,14 +3,8 @@ use borrow.Author.Needs.{needs}
 use Rattle.compare_path.proofs.bxdf.optics_conductor_sample.Statement.{statement}
 use Rattle.compare_path.proofs.bxdf.optics_conductor_sample.Tie as tie
 
-sample-requires : tie.Need-sample-requires
-sample-requires c κs = search needs
-
-of-sampled-requires : tie.Need-of-sampled-requires
-of-sampled-requires c κs = search needs
-
 returns : tie.Need-returns
 returns c = rw (c .of-sampled .ensures, c .before .sample .ensures)
 
 pub optics-conductor-sample-spec : {M : Type 1} → statement M
-optics-conductor-sample-spec = tie.close (tie.spec sample-requires of-sampled-requires returns)
+optics-conductor-sample-spec = tie.close (tie.spec (λ c κs. search needs) (λ c κs. search needs) returns)

@@ -3,14 +3,8 @@ use borrow.Author.Needs.{needs}
 use Rattle.compare_path.proofs.bxdf.optics_reflect.Statement.{statement}
 use Rattle.compare_path.proofs.bxdf.optics_reflect.Tie as tie
 
-reflect-requires : tie.Need-reflect-requires
-reflect-requires c κs = search needs
-
-of-reflected-requires : tie.Need-of-reflected-requires
-of-reflected-requires c κs = search needs
-
 returns : tie.Need-returns
 returns c = rw (c .of-reflected .ensures, c .before .reflect .ensures)
 
 pub optics-reflect-spec : {M : Type 1} → statement M
-optics-reflect-spec = tie.close (tie.spec reflect-requires of-reflected-requires returns)
+optics-reflect-spec = tie.close (tie.spec (λ c κs. search needs) (λ c κs. search needs) returns)

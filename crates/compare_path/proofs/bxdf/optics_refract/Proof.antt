@@ -3,14 +3,8 @@ use borrow.Author.Needs.{needs}
 use Rattle.compare_path.proofs.bxdf.optics_refract.Statement.{statement}
 use Rattle.compare_path.proofs.bxdf.optics_refract.Tie as tie
 
-refract-requires : tie.Need-refract-requires
-refract-requires c κs = search needs
-
-of-refracted-requires : tie.Need-of-refracted-requires
-of-refracted-requires c κs = search needs
-
 returns : tie.Need-returns
 returns c = rw (c .of-refracted .ensures, c .before .refract .ensures)
 
 pub optics-refract-spec : {M : Type 1} → statement M
-optics-refract-spec = tie.close (tie.spec refract-requires of-refracted-requires returns)
+optics-refract-spec = tie.close (tie.spec (λ c κs. search needs) (λ c κs. search needs) returns)

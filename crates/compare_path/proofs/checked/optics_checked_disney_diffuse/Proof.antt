@@ -3,17 +3,8 @@ use borrow.Author.Needs.{needs}
 use Rattle.compare_path.proofs.checked.optics_checked_disney_diffuse.Statement.{statement}
 use Rattle.compare_path.proofs.checked.optics_checked_disney_diffuse.Tie as tie
 
-surface-of-requires : tie.Need-surface-of-requires
-surface-of-requires c κs = search needs
-
-disney-diffuse-requires : tie.Need-disney-diffuse-requires
-disney-diffuse-requires c κs = search needs
-
-of-float-requires : tie.Need-of-float-requires
-of-float-requires c κs = search needs
-
 returns : tie.Need-returns
 returns c = rw (c .of-float .ensures, c .before .disney-diffuse .ensures, c .before .before .surface-of .ensures)
 
 pub optics-checked-disney-diffuse-spec : {M : Type 1} → statement M
-optics-checked-disney-diffuse-spec = tie.close (tie.spec surface-of-requires disney-diffuse-requires of-float-requires returns)
+optics-checked-disney-diffuse-spec = tie.close (tie.spec (λ c κs. search needs) (λ c κs. search needs) (λ c κs. search needs) returns)

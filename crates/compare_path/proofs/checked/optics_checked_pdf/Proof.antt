@@ -3,17 +3,8 @@ use borrow.Author.Needs.{needs}
 use Rattle.compare_path.proofs.checked.optics_checked_pdf.Statement.{statement}
 use Rattle.compare_path.proofs.checked.optics_checked_pdf.Tie as tie
 
-surface-of-requires : tie.Need-surface-of-requires
-surface-of-requires c κs = search needs
-
-pdf-requires : tie.Need-pdf-requires
-pdf-requires c κs = search needs
-
-of-float-requires : tie.Need-of-float-requires
-of-float-requires c κs = search needs
-
 returns : tie.Need-returns
 returns c = rw (c .of-float .ensures, c .before .pdf .ensures, c .before .before .surface-of .ensures)
 
 pub optics-checked-pdf-spec : {M : Type 1} → statement M
-optics-checked-pdf-spec = tie.close (tie.spec surface-of-requires pdf-requires of-float-requires returns)
+optics-checked-pdf-spec = tie.close (tie.spec (λ c κs. search needs) (λ c κs. search needs) (λ c κs. search needs) returns)

@@ -3,14 +3,8 @@ use borrow.Author.Needs.{needs}
 use Rattle.compare_path.proofs.checked.optics_checked_reflect.Statement.{statement}
 use Rattle.compare_path.proofs.checked.optics_checked_reflect.Tie as tie
 
-reflect-requires : tie.Need-reflect-requires
-reflect-requires c κs = search needs
-
-of-reflect-requires : tie.Need-of-reflect-requires
-of-reflect-requires c κs = search needs
-
 returns : tie.Need-returns
 returns c = rw (c .of-reflect .ensures, c .before .reflect .ensures)
 
 pub optics-checked-reflect-spec : {M : Type 1} → statement M
-optics-checked-reflect-spec = tie.close (tie.spec reflect-requires of-reflect-requires returns)
+optics-checked-reflect-spec = tie.close (tie.spec (λ c κs. search needs) (λ c κs. search needs) returns)

@@ -3,14 +3,8 @@ use borrow.Author.Needs.{needs}
 use Rattle.compare_path.proofs.checked.optics_checked_refract.Statement.{statement}
 use Rattle.compare_path.proofs.checked.optics_checked_refract.Tie as tie
 
-refract-requires : tie.Need-refract-requires
-refract-requires c κs = search needs
-
-of-refract-requires : tie.Need-of-refract-requires
-of-refract-requires c κs = search needs
-
 returns : tie.Need-returns
 returns c = rw (c .of-refract .ensures, c .before .refract .ensures)
 
 pub optics-checked-refract-spec : {M : Type 1} → statement M
-optics-checked-refract-spec = tie.close (tie.spec refract-requires of-refract-requires returns)
+optics-checked-refract-spec = tie.close (tie.spec (λ c κs. search needs) (λ c κs. search needs) returns)

@@ -3,17 +3,8 @@ use borrow.Author.Needs.{needs}
 use Rattle.compare_path.proofs.checked.optics_checked_sample_normal.Statement.{statement}
 use Rattle.compare_path.proofs.checked.optics_checked_sample_normal.Tie as tie
 
-surface-of-requires : tie.Need-surface-of-requires
-surface-of-requires c κs = search needs
-
-sample-normal-requires : tie.Need-sample-normal-requires
-sample-normal-requires c κs = search needs
-
-of-vec3-requires : tie.Need-of-vec3-requires
-of-vec3-requires c κs = search needs
-
 returns : tie.Need-returns
 returns c = rw (c .of-vec3 .ensures, c .before .sample-normal .ensures, c .before .before .surface-of .ensures)
 
 pub optics-checked-sample-normal-spec : {M : Type 1} → statement M
-optics-checked-sample-normal-spec = tie.close (tie.spec surface-of-requires sample-normal-requires of-vec3-requires returns)
+optics-checked-sample-normal-spec = tie.close (tie.spec (λ c κs. search needs) (λ c κs. search needs) (λ c κs. search needs) returns)

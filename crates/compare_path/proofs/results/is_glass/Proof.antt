@@ -5,12 +5,6 @@ use lib.Ieee.{ofBits}
 use Rattle.compare_path.proofs.results.is_glass.Statement.{statement}
 use Rattle.compare_path.proofs.results.is_glass.Tie as tie
 
-enum-told : tie.Need-enum-told
-enum-told c = search needs
-
-enum-told-2 : tie.Need-enum-told-2
-enum-told-2 c = search needs
-
 returns : tie.Need-returns
 unfolding isGlass ofBits
 returns c = rw (c .enum-told .given .1)
@@ -20,4 +14,4 @@ unfolding isGlass ofBits
 returns-2 c = rw (c .enum-told2 .given .1)
 
 pub is-glass-spec : {M : Type 1} → statement M
-is-glass-spec = tie.close (tie.spec enum-told enum-told-2 returns returns-2)
+is-glass-spec = tie.close (tie.spec (λ c. search needs) (λ c. search needs) returns returns-2)

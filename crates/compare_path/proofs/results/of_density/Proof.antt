@@ -5,12 +5,6 @@ use lib.Ieee.{ofBits}
 use Rattle.compare_path.proofs.results.of_density.Statement.{statement}
 use Rattle.compare_path.proofs.results.of_density.Tie as tie
 
-enum-known-density : tie.Need-enum-known-density
-enum-known-density c = search needs
-
-enum-told : tie.Need-enum-told
-enum-told c = search needs
-
 returns : tie.Need-returns
 unfolding densityResult ofBits
 returns c = rw (c .before .density .given .1)
@@ -20,4 +14,4 @@ unfolding densityResult ofBits
 returns-2 c = rw (c .enum-told .given .1)
 
 pub of-density-spec : {M : Type 1} → statement M
-of-density-spec = tie.close (tie.spec enum-known-density enum-told returns returns-2)
+of-density-spec = tie.close (tie.spec (λ c. search needs) (λ c. search needs) returns returns-2)

@@ -6,12 +6,6 @@ use lib.Ieee.{ofBits}
 use Rattle.compare_path.proofs.results.of_reflected.Statement.{statement}
 use Rattle.compare_path.proofs.results.of_reflected.Tie as tie
 
-enum-known-answer : tie.Need-enum-known-answer
-enum-known-answer c = search needs
-
-enum-told : tie.Need-enum-told
-enum-told c = search needs
-
 returns : tie.Need-returns
 unfolding outgoingResult reflected ofBits
 returns c = rw (c .before .answer .given .1)
@@ -21,4 +15,4 @@ unfolding outgoingResult reflected ofBits
 returns-2 c = rw (c .enum-told .given .1)
 
 pub of-reflected-spec : {M : Type 1} → statement M
-of-reflected-spec = tie.close (tie.spec enum-known-answer enum-told returns returns-2)
+of-reflected-spec = tie.close (tie.spec (λ c. search needs) (λ c. search needs) returns returns-2)

@@ -6,21 +6,6 @@ use lib.Ieee.{ofBits}
 use Rattle.compare_path.proofs.results.of_refract.Statement.{statement}
 use Rattle.compare_path.proofs.results.of_refract.Tie as tie
 
-enum-known-answer : tie.Need-enum-known-answer
-enum-known-answer c = search needs
-
-number-requires : tie.Need-number-requires
-number-requires c κs = search needs
-
-enum-known-answer-2 : tie.Need-enum-known-answer-2
-enum-known-answer-2 c = search needs
-
-enum-told : tie.Need-enum-told
-enum-told c = search needs
-
-enum-told-2 : tie.Need-enum-told-2
-enum-told-2 c = search needs
-
 returns : tie.Need-returns
 unfolding checkedOutgoingResult refractAnswer ofBits
 returns c = rw (c .before .before .answer .given .1, ← c .number .ensures)
@@ -38,4 +23,7 @@ unfolding checkedOutgoingResult refractAnswer ofBits
 returns-4 c = rw (c .enum-told2 .given .1)
 
 pub of-refract-spec : {M : Type 1} → statement M
-of-refract-spec = tie.close (tie.spec enum-known-answer number-requires enum-known-answer-2 enum-told enum-told-2 returns returns-2 returns-3 returns-4)
+of-refract-spec =
+    tie.close
+    (tie.spec (λ c. search needs) (λ c κs. search needs) (λ c. search needs) (λ c. search needs) (λ c. search needs) returns returns-2 returns-3
+    returns-4)

@@ -6,15 +6,6 @@ use lib.Ieee.{ofBits}
 use Rattle.compare_path.proofs.results.of_refracted.Statement.{statement}
 use Rattle.compare_path.proofs.results.of_refracted.Tie as tie
 
-enum-known-answer : tie.Need-enum-known-answer
-enum-known-answer c = search needs
-
-enum-told : tie.Need-enum-told
-enum-told c = search needs
-
-enum-told-2 : tie.Need-enum-told-2
-enum-told-2 c = search needs
-
 returns : tie.Need-returns
 unfolding outgoingResult refracted ofBits
 returns c = rw (c .before .answer .given .1)
@@ -28,4 +19,4 @@ unfolding outgoingResult refracted ofBits
 returns-3 c = rw (c .enum-told2 .given .1)
 
 pub of-refracted-spec : {M : Type 1} → statement M
-of-refracted-spec = tie.close (tie.spec enum-known-answer enum-told enum-told-2 returns returns-2 returns-3)
+of-refracted-spec = tie.close (tie.spec (λ c. search needs) (λ c. search needs) (λ c. search needs) returns returns-2 returns-3)

@@ -6,15 +6,6 @@ use lib.Ieee.{ofBits}
 use Rattle.compare_path.proofs.results.of_vec3.Statement.{statement}
 use Rattle.compare_path.proofs.results.of_vec3.Tie as tie
 
-enum-known-answer : tie.Need-enum-known-answer
-enum-known-answer c = search needs
-
-number-requires : tie.Need-number-requires
-number-requires c κs = search needs
-
-enum-known-answer-2 : tie.Need-enum-known-answer-2
-enum-known-answer-2 c = search needs
-
 returns : tie.Need-returns
 unfolding vec3Result vec3Answer ofBits
 returns c = rw (c .before .before .answer .given .1, ← c .number .ensures)
@@ -24,4 +15,4 @@ unfolding vec3Result vec3Answer ofBits
 returns-2 c = rw (c .before .answer2 .given .1)
 
 pub of-vec3-spec : {M : Type 1} → statement M
-of-vec3-spec = tie.close (tie.spec enum-known-answer number-requires enum-known-answer-2 returns returns-2)
+of-vec3-spec = tie.close (tie.spec (λ c. search needs) (λ c κs. search needs) (λ c. search needs) returns returns-2)

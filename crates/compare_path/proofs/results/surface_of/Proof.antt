@@ -5,12 +5,9 @@ use lib.Ieee.{ofBits}
 use Rattle.compare_path.proofs.results.surface_of.Statement.{statement}
 use Rattle.compare_path.proofs.results.surface_of.Tie as tie
 
-kind-of-requires : tie.Need-kind-of-requires
-kind-of-requires c κs = search needs
-
 returns : tie.Need-returns
 unfolding surfaceOf ofBits
 returns c = rw (← c .kind-of .ensures)
 
 pub surface-of-spec : {M : Type 1} → statement M
-surface-of-spec = tie.close (tie.spec kind-of-requires returns)
+surface-of-spec = tie.close (tie.spec (λ c κs. search needs) returns)

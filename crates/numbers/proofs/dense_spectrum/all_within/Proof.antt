@@ -20,21 +20,6 @@ abbrev μ-loop : tie.MeasureT-loop
 loop-holds : tie.Need-loop-holds Inv-loop μ-loop
 loop-holds c = rest-start _ _
 
-mul-within : tie.Need-mul-within Inv-loop μ-loop
-mul-within c = search needs
-
-shared-slice-read-within : tie.Need-shared-slice-read-within Inv-loop μ-loop
-shared-slice-read-within c = search needs
-
-within-requires : tie.Need-within-requires Inv-loop μ-loop
-within-requires c κs = search needs
-
-add-i : tie.Need-add-i Inv-loop μ-loop
-add-i c = omega arith
-
-loop-less : tie.Need-loop-less Inv-loop μ-loop
-loop-less c = omega arith
-
 loop-again : tie.Need-loop-again Inv-loop μ-loop
 loop-again c = rest-next _ _ (c .before .before .before .before .loop .i) nan (c .before .before .before .before .loop .inv) (omega arith) (sym (c .before .within .ensures) ∙ c .if1 .taken)
 
@@ -47,4 +32,7 @@ unfolding allWithin
 returns-2 c = sym (rest-ends _ _ (c .before .loop .i) (c .before .loop .inv) (omega arith))
 
 pub all-within-spec : {M : Type 1} → statement M
-all-within-spec = tie.close (tie.spec Inv-loop μ-loop loop-holds mul-within shared-slice-read-within within-requires add-i loop-less loop-again returns returns-2)
+all-within-spec =
+    tie.close
+    (tie.spec Inv-loop μ-loop loop-holds (λ c. search needs) (λ c. search needs) (λ c κs. search needs) (λ c. omega arith) (λ c. omega arith)
+    loop-again returns returns-2)

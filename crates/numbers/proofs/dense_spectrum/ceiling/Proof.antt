@@ -11,9 +11,6 @@ truncating-f64-to-u64-requires : tie.Need-truncating-f64-to-u64-requires
 unfolding neg ofBits
 truncating-f64-to-u64-requires c κs = (passes _ (c .before .if1 .taken), passes _ (c .if2 .taken))
 
-nearest-u64-to-f64-requires : tie.Need-nearest-u64-to-f64-requires
-nearest-u64-to-f64-requires c κs = search needs
-
 add-result : tie.Need-add-result
 unfolding ofBits
 add-result c =
@@ -37,13 +34,4 @@ unfolding ceiling neg ofBits
 returns-4 c = rw (c .if1 .left)
 
 pub ceiling-spec : {M : Type 1} → statement M
-ceiling-spec =
-    tie.close
-    (tie.spec
-    truncating-f64-to-u64-requires
-    nearest-u64-to-f64-requires
-    add-result
-    returns
-    returns-2
-    returns-3
-    returns-4)
+ceiling-spec = tie.close (tie.spec truncating-f64-to-u64-requires (λ c κs. search needs) add-result returns returns-2 returns-3 returns-4)

@@ -9,12 +9,9 @@ returns : tie.Need-returns
 unfolding isLookupWavelength ofBits
 returns c = rw (c .if1 .taken)
 
-is-wavelength-requires : tie.Need-is-wavelength-requires
-is-wavelength-requires c κs = search needs
-
 returns-2 : tie.Need-returns-2
 unfolding isLookupWavelength ofBits
 returns-2 c = rw (c .before .if1 .left, ← c .is-wavelength .ensures)
 
 pub is-lookup-wavelength-spec : {M : Type 1} → statement M
-is-lookup-wavelength-spec = tie.close (tie.spec returns is-wavelength-requires returns-2)
+is-lookup-wavelength-spec = tie.close (tie.spec returns (λ c κs. search needs) returns-2)

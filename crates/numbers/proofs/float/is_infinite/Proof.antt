@@ -6,9 +6,6 @@ use Rattle.numbers.proofs.FloatBits.{infinite-test}
 use Rattle.numbers.proofs.float.is_infinite.Statement.{statement}
 use Rattle.numbers.proofs.float.is_infinite.Tie as tie
 
-abs-requires : tie.Need-abs-requires
-abs-requires c κs = search needs
-
 float-from-bits-result : tie.Need-float-from-bits-result
 float-from-bits-result c = inf-not-nan
 
@@ -17,4 +14,4 @@ unfolding ofBits
 returns c = rw (c .abs .ensures) (infinite-test (c .before .args .x))
 
 pub is-infinite-spec : {M : Type 1} → statement M
-is-infinite-spec = tie.close (tie.spec abs-requires float-from-bits-result returns)
+is-infinite-spec = tie.close (tie.spec (λ c κs. search needs) float-from-bits-result returns)

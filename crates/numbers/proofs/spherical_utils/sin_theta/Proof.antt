@@ -4,15 +4,9 @@ use Rattle.numbers.specs.SphericalUtils.{sinTheta}
 use Rattle.numbers.proofs.spherical_utils.sin_theta.Statement.{statement}
 use Rattle.numbers.proofs.spherical_utils.sin_theta.Tie as tie
 
-sin2-theta-requires : tie.Need-sin2-theta-requires
-sin2-theta-requires c κs = search needs
-
-sqrt-requires : tie.Need-sqrt-requires
-sqrt-requires c κs = search needs
-
 returns : tie.Need-returns
 unfolding sinTheta
 returns c = rw (← c .before .sin2-theta .ensures, ← c .sqrt .ensures)
 
 pub sin-theta-spec : {M : Type 1} → statement M
-sin-theta-spec = tie.close (tie.spec sin2-theta-requires sqrt-requires returns)
+sin-theta-spec = tie.close (tie.spec (λ c κs. search needs) (λ c κs. search needs) returns)

@@ -4,15 +4,9 @@ use Rattle.numbers.specs.SphericalUtils.{tanTheta}
 use Rattle.numbers.proofs.spherical_utils.tan_theta.Statement.{statement}
 use Rattle.numbers.proofs.spherical_utils.tan_theta.Tie as tie
 
-sin-theta-requires : tie.Need-sin-theta-requires
-sin-theta-requires c κs = search needs
-
-cos-theta-requires : tie.Need-cos-theta-requires
-cos-theta-requires c κs = search needs
-
 returns : tie.Need-returns
 unfolding tanTheta
 returns c = rw (← c .before .sin-theta .ensures, ← c .cos-theta .ensures)
 
 pub tan-theta-spec : {M : Type 1} → statement M
-tan-theta-spec = tie.close (tie.spec sin-theta-requires cos-theta-requires returns)
+tan-theta-spec = tie.close (tie.spec (λ c κs. search needs) (λ c κs. search needs) returns)

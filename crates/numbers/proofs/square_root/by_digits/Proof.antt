@@ -23,8 +23,5 @@ root-positive-requires : tie.Need-root-positive-requires
 root-positive-requires c κs =
     positive-case (c .before .before .before .args .x) (c .before .before .if1 .left) (c .before .if2 .left) (c .if4 .left)
 
-returns-5 : tie.Need-returns-5
-returns-5 c = search needs
-
 pub by-digits-spec : {M : Type 1} → statement M
-by-digits-spec = tie.close (tie.spec returns returns-2 returns-3 float-from-bits-if4 returns-4 root-positive-requires returns-5)
+by-digits-spec = tie.close (tie.spec returns returns-2 returns-3 float-from-bits-if4 returns-4 root-positive-requires (λ c. search needs))

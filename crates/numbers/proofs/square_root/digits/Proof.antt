@@ -16,24 +16,6 @@ abbrev μ-loop : tie.MeasureT-loop
 loop-holds : tie.Need-loop-holds Inv-loop μ-loop
 loop-holds c = (start (c .args .m) (omega arith), omega arith)
 
-mul-x : tie.Need-mul-x Inv-loop μ-loop
-mul-x c = omega arith
-
-add-x : tie.Need-add-x Inv-loop μ-loop
-add-x c = omega arith
-
-mul-t : tie.Need-mul-t Inv-loop μ-loop
-mul-t c = omega arith
-
-add-t : tie.Need-add-t Inv-loop μ-loop
-add-t c = omega arith
-
-mul-w : tie.Need-mul-w Inv-loop μ-loop
-mul-w c = omega arith
-
-bit-requires : tie.Need-bit-requires Inv-loop μ-loop
-bit-requires c κs = search needs
-
 -- what the product with the digit is at most
 small : (c : tie.After-bit Inv-loop μ-loop)
     → (c .before .before .loop .root * 4 + 1) * c .bit .result ≤ c .before .before .loop .rem * 4 + c .before .before .loop .w / 2 ^ 52
@@ -46,18 +28,6 @@ mul-rem c = omega (arith, small c)
 
 sub-rem : tie.Need-sub-rem Inv-loop μ-loop
 sub-rem c = omega (arith, small c)
-
-mul-root : tie.Need-mul-root Inv-loop μ-loop
-mul-root c = omega arith
-
-add-root : tie.Need-add-root Inv-loop μ-loop
-add-root c = omega arith
-
-add-i : tie.Need-add-i Inv-loop μ-loop
-add-i c = omega arith
-
-loop-less : tie.Need-loop-less Inv-loop μ-loop
-loop-less c = omega arith
 
 loop-again : tie.Need-loop-again Inv-loop μ-loop
 loop-again c =
@@ -76,4 +46,6 @@ returns c =
 
 pub digits-spec : {M : Type 1} → statement M
 digits-spec =
-    tie.close (tie.spec Inv-loop μ-loop loop-holds mul-x add-x mul-t add-t mul-w bit-requires mul-rem sub-rem mul-root add-root add-i loop-less loop-again returns)
+    tie.close
+    (tie.spec Inv-loop μ-loop loop-holds (λ c. omega arith) (λ c. omega arith) (λ c. omega arith) (λ c. omega arith) (λ c. omega arith)
+    (λ c κs. search needs) mul-rem sub-rem (λ c. omega arith) (λ c. omega arith) (λ c. omega arith) (λ c. omega arith) loop-again returns)

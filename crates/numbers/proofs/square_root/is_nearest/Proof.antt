@@ -14,65 +14,14 @@ mul-aa c = omega (arith, aa-le (c .args .q) (c .pre .1))
 mul-aa-2 : tie.Need-mul-aa-2
 mul-aa-2 c = omega (arith, aa-le (c .args .q) (c .pre .1))
 
-add-if1 : tie.Need-add-if1
-add-if1 c = search needs
-
-returns : tie.Need-returns
-returns c = search needs
-
-add-j : tie.Need-add-j
-add-j c = search needs
-
-sub-j : tie.Need-sub-j
-sub-j c = search needs
-
-returns-2 : tie.Need-returns-2
-returns-2 c = search needs
-
 mul-ab : tie.Need-mul-ab
 mul-ab c = omega (arith, ab-le (c .before .before .args .q) (c .before .before .pre .1))
-
-mul-if3 : tie.Need-mul-if3
-mul-if3 c = search needs
-
-returns-3 : tie.Need-returns-3
-returns-3 c = search needs
-
-mul-k : tie.Need-mul-k
-mul-k c = search needs
-
-sub-k : tie.Need-sub-k
-sub-k c = search needs
-
-returns-4 : tie.Need-returns-4
-returns-4 c = search needs
-
-mul-w : tie.Need-mul-w
-mul-w c = search needs
-
-mul-w-2 : tie.Need-mul-w-2
-mul-w-2 c = search needs
-
-add-w : tie.Need-add-w
-add-w c = search needs
 
 mul-t : tie.Need-mul-t
 mul-t c = omega (arith, bb-le (c .before .before .before .before .args .q))
 
-mul-t-2 : tie.Need-mul-t-2
-mul-t-2 c = search needs
-
 add-t : tie.Need-add-t
 add-t c = omega (arith, bb-le (c .before .before .before .before .args .q))
-
-returns-5 : tie.Need-returns-5
-returns-5 c = search needs
-
-sub-result : tie.Need-sub-result
-sub-result c = search needs
-
-mul-result : tie.Need-mul-result
-mul-result c = search needs
 
 returns-6 : tie.Need-returns-6
 returns-6 c =
@@ -90,27 +39,6 @@ returns-6 c =
 pub is-nearest-spec : {M : Type 1} → statement M
 is-nearest-spec =
     tie.close
-    (tie.spec
-    mul-aa
-    mul-aa-2
-    add-if1
-    returns
-    add-j
-    sub-j
-    returns-2
-    mul-ab
-    mul-if3
-    returns-3
-    mul-k
-    sub-k
-    returns-4
-    mul-w
-    mul-w-2
-    add-w
-    mul-t
-    mul-t-2
-    add-t
-    returns-5
-    sub-result
-    mul-result
-    returns-6)
+    (tie.spec mul-aa mul-aa-2 (λ c. search needs) (λ c. search needs) (λ c. search needs) (λ c. search needs) (λ c. search needs) mul-ab
+    (λ c. search needs) (λ c. search needs) (λ c. search needs) (λ c. search needs) (λ c. search needs) (λ c. search needs) (λ c. search needs)
+    (λ c. search needs) mul-t (λ c. search needs) add-t (λ c. search needs) (λ c. search needs) (λ c. search needs) returns-6)

@@ -20,25 +20,13 @@ float-to-bits-bits c = positive-number (c .before .args .x) (c .before .pre .0 .
 float-to-bits-p : tie.Need-float-to-bits-p
 float-to-bits-p c = not-nan (c .before .args .g) (c .if1 .left)
 
-add-if2 : tie.Need-add-if2
-add-if2 c = search needs
-
 returns-2 : tie.Need-returns-2
 returns-2 c = λ h. absurd h
-
-add-m : tie.Need-add-m
-add-m c = search needs
-
-sub-m : tie.Need-sub-m
-sub-m c = search needs
 
 mul-m : tie.Need-mul-m
 mul-m c =
     let b = toBits binary64 (c .before .before .args .x) in
     omega (arith, mantissa-in b (b / 2 ^ 52))
-
-add-is-nearest : tie.Need-add-is-nearest
-add-is-nearest c = search needs
 
 is-nearest-requires : tie.Need-is-nearest-requires
 is-nearest-requires c κs =
@@ -64,15 +52,5 @@ returns-3 c =
 pub is-root-spec : {M : Type 1} → statement M
 is-root-spec =
     tie.close
-    (tie.spec
-    returns
-    float-to-bits-bits
-    float-to-bits-p
-    add-if2
-    returns-2
-    add-m
-    sub-m
-    mul-m
-    add-is-nearest
-    is-nearest-requires
-    returns-3)
+    (tie.spec returns float-to-bits-bits float-to-bits-p (λ c. search needs) returns-2 (λ c. search needs) (λ c. search needs) mul-m
+    (λ c. search needs) is-nearest-requires returns-3)

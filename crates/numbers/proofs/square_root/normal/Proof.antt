@@ -14,14 +14,8 @@ abbrev μ-loop : tie.MeasureT-loop
 loop-holds : tie.Need-loop-holds Inv-loop μ-loop
 loop-holds c = norm-start (c .args .t) (omega arith) (omega arith)
 
-mul-m : tie.Need-mul-m Inv-loop μ-loop
-mul-m c = omega arith
-
 add-z : tie.Need-add-z Inv-loop μ-loop
 add-z c = omega (arith, norm-few (c .before .before .args .t) (c .before .loop .m) (c .before .loop .z) (c .before .loop .inv))
-
-loop-less : tie.Need-loop-less Inv-loop μ-loop
-loop-less c = omega arith
 
 loop-again : tie.Need-loop-again Inv-loop μ-loop
 loop-again c = norm-step (c .before .before .args .t) (c .before .loop .m) (c .before .loop .z) (c .before .loop .inv) (omega arith)
@@ -30,4 +24,4 @@ returns : tie.Need-returns Inv-loop μ-loop
 returns c = norm-done (c .before .before .args .t) (c .before .loop .m) (c .before .loop .z) (c .before .loop .inv) (omega arith)
 
 pub normal-spec : {M : Type 1} → statement M
-normal-spec = tie.close (tie.spec Inv-loop μ-loop loop-holds mul-m add-z loop-less loop-again returns)
+normal-spec = tie.close (tie.spec Inv-loop μ-loop loop-holds (λ c. omega arith) add-z (λ c. omega arith) loop-again returns)

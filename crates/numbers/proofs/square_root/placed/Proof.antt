@@ -4,15 +4,6 @@ use Rattle.numbers.proofs.RootBits.{placed-even, placed-odd}
 use Rattle.numbers.proofs.square_root.placed.Statement.{statement}
 use Rattle.numbers.proofs.square_root.placed.Tie as tie
 
-scaled-requires : tie.Need-scaled-requires
-scaled-requires c κs = search needs
-
-mul-scaled : tie.Need-mul-scaled
-mul-scaled c = search needs
-
-scaled-requires-2 : tie.Need-scaled-requires-2
-scaled-requires-2 c κs = search needs
-
 returns : tie.Need-returns
 returns c =
     placed-even (c .before .before .args .m) (c .before .before .args .e) (c .scaled .result) (c .before .if1 .taken) (c .scaled .ensures)
@@ -22,4 +13,4 @@ returns-2 c =
     placed-odd (c .before .before .args .m) (c .before .before .args .e) (c .scaled2 .result) (c .before .if1 .left) (c .scaled2 .ensures)
 
 pub placed-spec : {M : Type 1} → statement M
-placed-spec = tie.close (tie.spec scaled-requires mul-scaled scaled-requires-2 returns returns-2)
+placed-spec = tie.close (tie.spec (λ c κs. search needs) (λ c. search needs) (λ c κs. search needs) returns returns-2)

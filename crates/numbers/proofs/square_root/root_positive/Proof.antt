@@ -23,15 +23,6 @@ normal-requires c κs =
     let p = u .some in
     omega arith
 
-sub-placed : tie.Need-sub-placed
-sub-placed c = search needs
-
-placed-requires : tie.Need-placed-requires
-placed-requires c κs = search needs
-
-add-placed : tie.Need-add-placed
-add-placed c = search needs
-
 add-placed-2 : tie.Need-add-placed-2
 add-placed-2 c = omega (arith, opened (c .before .args .x) (c .before .pre) (of-format (c .before)) .0 .field)
 
@@ -55,4 +46,6 @@ returns-2 c =
 
 pub root-positive-spec : {M : Type 1} → statement M
 root-positive-spec =
-    tie.close (tie.spec float-to-bits-bits normal-requires sub-placed placed-requires add-placed add-placed-2 placed-requires-2 returns returns-2)
+    tie.close
+    (tie.spec float-to-bits-bits normal-requires (λ c. search needs) (λ c κs. search needs) (λ c. search needs) add-placed-2 placed-requires-2
+    returns returns-2)

@@ -5,9 +5,6 @@ use Rattle.numbers.proofs.RootBits.{digits-54, scaled-root, scaled-nan,
 use Rattle.numbers.proofs.square_root.scaled.Statement.{statement}
 use Rattle.numbers.proofs.square_root.scaled.Tie as tie
 
-digits-requires : tie.Need-digits-requires
-digits-requires c κs = search needs
-
 add-q : tie.Need-add-q
 add-q c = omega (arith, digits-54 (c .digits .result) (c .before .args .m) (c .digits .ensures) (c .before .pre .0) (c .before .pre .1) .1)
 
@@ -16,12 +13,6 @@ int-to-float-result c =
     scaled-cast (c .before .digits .result)
     (digits-54 (c .before .digits .result) (c .before .before .args .m) (c .before .digits .ensures) (c .before .before .pre .0)
     (c .before .before .pre .1) .1)
-
-sub-result : tie.Need-sub-result
-sub-result c = search needs
-
-mul-result : tie.Need-mul-result
-mul-result c = search needs
 
 float-from-bits-result : tie.Need-float-from-bits-result
 float-from-bits-result c = scaled-nan (c .before .before .args .h) (c .before .before .pre .2) (c .before .before .pre .3)
@@ -32,4 +23,6 @@ returns c =
     (c .before .before .pre .0) (c .before .before .pre .1) (c .before .before .pre .2) (c .before .before .pre .3)
 
 pub scaled-spec : {M : Type 1} → statement M
-scaled-spec = tie.close (tie.spec digits-requires add-q int-to-float-result sub-result mul-result float-from-bits-result returns)
+scaled-spec =
+    tie.close
+    (tie.spec (λ c κs. search needs) add-q int-to-float-result (λ c. search needs) (λ c. search needs) float-from-bits-result returns)

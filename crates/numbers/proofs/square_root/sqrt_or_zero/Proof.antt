@@ -11,9 +11,6 @@ use Rattle.numbers.proofs.square_root.sqrt_or_zero.Statement.{statement
 use Rattle.numbers.proofs.square_root.sqrt_or_zero.Tie as tie
 use denote.Floats.{passes}
 
-sqrt-requires : tie.Need-sqrt-requires
-sqrt-requires c κs = search needs
-
 returns : tie.Need-returns
 returns c =
     let x = c .before .before .args .x in
@@ -33,4 +30,4 @@ returns-3 c =
     (λ (t : T (eq x f0)). off (eq x (ofBits binary64 0)) (c .if2 .left) (subst (λ (z : Float). T (eq x z)) (sym zero-bits) t))
 
 pub sqrt-or-zero-spec : {M : Type 1} → statement M
-sqrt-or-zero-spec = tie.close (tie.spec sqrt-requires returns returns-2 returns-3)
+sqrt-or-zero-spec = tie.close (tie.spec (λ c κs. search needs) returns returns-2 returns-3)

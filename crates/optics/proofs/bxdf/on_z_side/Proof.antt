@@ -6,9 +6,6 @@ use borrow.Author.Needs.{needs}
 use Rattle.optics.proofs.bxdf.on_z_side.Statement.{statement}
 use Rattle.optics.proofs.bxdf.on_z_side.Tie as tie
 
-negate-requires : tie.Need-negate-requires
-negate-requires c κs = search needs
-
 returns : tie.Need-returns
 unfolding onZSide cosTheta ofBits
 returns c = rw (c .before .if1 .taken, ← c .negate .ensures)
@@ -18,4 +15,4 @@ unfolding onZSide cosTheta ofBits
 returns-2 c = rw (c .if1 .left)
 
 pub on-z-side-spec : {M : Type 1} → statement M
-on-z-side-spec = tie.close (tie.spec negate-requires returns returns-2)
+on-z-side-spec = tie.close (tie.spec (λ c κs. search needs) returns returns-2)

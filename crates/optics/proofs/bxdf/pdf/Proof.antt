@@ -5,21 +5,9 @@ use borrow.Author.Needs.{needs}
 use Rattle.optics.proofs.bxdf.pdf.Statement.{statement}
 use Rattle.optics.proofs.bxdf.pdf.Tie as tie
 
-enum-told : tie.Need-enum-told
-enum-told c = search needs
-
-pdf-requires : tie.Need-pdf-requires
-pdf-requires c κs = search needs
-
 returns : tie.Need-returns
 unfolding pdfOf ofBits
 returns c = rw (c .before .before .enum-told .given .1, c .before .if1 .taken, ← c .pdf .ensures)
-
-enum-told-2 : tie.Need-enum-told-2
-enum-told-2 c = search needs
-
-pdf-requires-2 : tie.Need-pdf-requires-2
-pdf-requires-2 c κs = search needs
 
 returns-2 : tie.Need-returns-2
 unfolding pdfOf ofBits
@@ -30,6 +18,4 @@ unfolding pdfOf ofBits
 returns-3 c = rw (c .before .enum-told2 .given .1, ← c .pdf2 .ensures)
 
 pub pdf-spec : {M : Type 1} → statement M
-pdf-spec =
-    tie.close
-    (tie.spec enum-told pdf-requires returns enum-told-2 pdf-requires-2 returns-2 returns-3)
+pdf-spec = tie.close (tie.spec (λ c. search needs) (λ c κs. search needs) returns (λ c. search needs) (λ c κs. search needs) returns-2 returns-3)

@@ -6,18 +6,6 @@ use borrow.Author.Needs.{needs}
 use Rattle.optics.proofs.bxdf.reflect.Statement.{statement}
 use Rattle.optics.proofs.bxdf.reflect.Tie as tie
 
-project-onto-requires : tie.Need-project-onto-requires
-project-onto-requires c κs = search needs
-
-float-mul-requires : tie.Need-float-mul-requires
-float-mul-requires c κs = search needs
-
-sub-requires : tie.Need-sub-requires
-sub-requires c κs = search needs
-
-same-hemisphere-requires : tie.Need-same-hemisphere-requires
-same-hemisphere-requires c κs = search needs
-
 returns : tie.Need-returns
 unfolding reflect mirrored reflected ofBits
 returns c =
@@ -41,12 +29,4 @@ returns-2 c =
     )
 
 pub reflect-spec : {M : Type 1} → statement M
-reflect-spec =
-    tie.close
-    (tie.spec
-    project-onto-requires
-    float-mul-requires
-    sub-requires
-    same-hemisphere-requires
-    returns
-    returns-2)
+reflect-spec = tie.close (tie.spec (λ c κs. search needs) (λ c κs. search needs) (λ c κs. search needs) (λ c κs. search needs) returns returns-2)

@@ -5,15 +5,6 @@ use borrow.Author.Needs.{needs}
 use Rattle.optics.proofs.bxdf.refract.Statement.{statement}
 use Rattle.optics.proofs.bxdf.refract.Tie as tie
 
-dot-requires : tie.Need-dot-requires
-dot-requires c κs = search needs
-
-negate-requires : tie.Need-negate-requires
-negate-requires c κs = search needs
-
-refract-facing-requires : tie.Need-refract-facing-requires
-refract-facing-requires c κs = search needs
-
 returns : tie.Need-returns
 unfolding refract ofBits
 returns c =
@@ -24,20 +15,9 @@ returns c =
       ← c .refract-facing .ensures,
     )
 
-refract-facing-requires-2 : tie.Need-refract-facing-requires-2
-refract-facing-requires-2 c κs = search needs
-
 returns-2 : tie.Need-returns-2
 unfolding refract ofBits
 returns-2 c = rw (← c .before .before .dot .ensures, c .before .if1 .left, ← c .refract-facing2 .ensures)
 
 pub refract-spec : {M : Type 1} → statement M
-refract-spec =
-    tie.close
-    (tie.spec
-    dot-requires
-    negate-requires
-    refract-facing-requires
-    returns
-    refract-facing-requires-2
-    returns-2)
+refract-spec = tie.close (tie.spec (λ c κs. search needs) (λ c κs. search needs) (λ c κs. search needs) returns (λ c κs. search needs) returns-2)

@@ -10,24 +10,6 @@ returns : tie.Need-returns
 unfolding refractFacing sin2I isTotal cosI bent acrossOnly refracted ofBits
 returns c = rw (c .if1 .taken)
 
-sqrt-or-zero-requires : tie.Need-sqrt-or-zero-requires
-sqrt-or-zero-requires c κs = search needs
-
-negate-requires : tie.Need-negate-requires
-negate-requires c κs = search needs
-
-div-float-requires : tie.Need-div-float-requires
-div-float-requires c κs = search needs
-
-float-mul-requires : tie.Need-float-mul-requires
-float-mul-requires c κs = search needs
-
-add-requires : tie.Need-add-requires
-add-requires c κs = search needs
-
-same-hemisphere-requires : tie.Need-same-hemisphere-requires
-same-hemisphere-requires c κs = search needs
-
 returns-2 : tie.Need-returns-2
 unfolding refractFacing sin2I isTotal cosI bent acrossOnly refracted ofBits
 returns-2 c =
@@ -59,13 +41,5 @@ returns-3 c =
 pub refract-facing-spec : {M : Type 1} → statement M
 refract-facing-spec =
     tie.close
-    (tie.spec
-    returns
-    sqrt-or-zero-requires
-    negate-requires
-    div-float-requires
-    float-mul-requires
-    add-requires
-    same-hemisphere-requires
-    returns-2
-    returns-3)
+    (tie.spec returns (λ c κs. search needs) (λ c κs. search needs) (λ c κs. search needs) (λ c κs. search needs) (λ c κs. search needs)
+    (λ c κs. search needs) returns-2 returns-3)

@@ -5,12 +5,9 @@ use borrow.Author.Needs.{needs}
 use Rattle.optics.proofs.checked.all_zero.Statement.{statement}
 use Rattle.optics.proofs.checked.all_zero.Tie as tie
 
-all-within-requires : tie.Need-all-within-requires
-all-within-requires c κs = search needs
-
 returns : tie.Need-returns
 unfolding allZero ofBits
 returns c = rw (← c .all-within .ensures)
 
 pub all-zero-spec : {M : Type 1} → statement M
-all-zero-spec = tie.close (tie.spec all-within-requires returns)
+all-zero-spec = tie.close (tie.spec (λ c κs. search needs) returns)

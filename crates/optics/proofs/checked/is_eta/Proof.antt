@@ -6,12 +6,9 @@ use borrow.Author.Needs.{needs}
 use Rattle.optics.proofs.checked.is_eta.Statement.{statement}
 use Rattle.optics.proofs.checked.is_eta.Tie as tie
 
-within-requires : tie.Need-within-requires
-within-requires c κs = search needs
-
 returns : tie.Need-returns
 unfolding isEta etaMin decimal ofBits
 returns c = rw (← c .within .ensures)
 
 pub is-eta-spec : {M : Type 1} → statement M
-is-eta-spec = tie.close (tie.spec within-requires returns)
+is-eta-spec = tie.close (tie.spec (λ c κs. search needs) returns)

@@ -6,12 +6,9 @@ use borrow.Author.Needs.{needs}
 use Rattle.optics.proofs.checked.is_roughness.Statement.{statement}
 use Rattle.optics.proofs.checked.is_roughness.Tie as tie
 
-within-requires : tie.Need-within-requires
-within-requires c κs = search needs
-
 returns : tie.Need-returns
 unfolding isRoughness roughnessMin decimal ofBits
 returns c = rw (← c .within .ensures)
 
 pub is-roughness-spec : {M : Type 1} → statement M
-is-roughness-spec = tie.close (tie.spec within-requires returns)
+is-roughness-spec = tie.close (tie.spec (λ c κs. search needs) returns)

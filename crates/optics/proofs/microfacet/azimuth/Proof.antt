@@ -9,12 +9,9 @@ returns : tie.Need-returns
 unfolding azimuth ofBits neg
 returns c = rw (c .if1 .taken)
 
-clamp-requires : tie.Need-clamp-requires
-clamp-requires c κs = search needs
-
 returns-2 : tie.Need-returns-2
 unfolding azimuth ofBits neg
 returns-2 c = rw (c .before .if1 .left, ← c .clamp .ensures)
 
 pub azimuth-spec : {M : Type 1} → statement M
-azimuth-spec = tie.close (tie.spec returns clamp-requires returns-2)
+azimuth-spec = tie.close (tie.spec returns (λ c κs. search needs) returns-2)

@@ -7,12 +7,9 @@ use borrow.Author.Needs.{needs}
 use Rattle.optics.proofs.microfacet.chi_pass_at.Statement.{statement}
 use Rattle.optics.proofs.microfacet.chi_pass_at.Tie as tie
 
-signum-requires : tie.Need-signum-requires
-signum-requires c κs = search needs
-
 returns : tie.Need-returns
 unfolding chiPassAt cosTheta epsilon decimal ofBits
 returns c = rw (← c .before .signum .ensures)
 
 pub chi-pass-at-spec : {M : Type 1} → statement M
-chi-pass-at-spec = tie.close (tie.spec signum-requires returns)
+chi-pass-at-spec = tie.close (tie.spec (λ c κs. search needs) returns)

@@ -5,18 +5,6 @@ use borrow.Author.Needs.{needs}
 use Rattle.optics.proofs.microfacet.complex_cos_i.Statement.{statement}
 use Rattle.optics.proofs.microfacet.complex_cos_i.Tie as tie
 
-mul-requires : tie.Need-mul-requires
-mul-requires c κs = search needs
-
-float-div-requires : tie.Need-float-div-requires
-float-div-requires c κs = search needs
-
-float-sub-requires : tie.Need-float-sub-requires
-float-sub-requires c κs = search needs
-
-sqrt-requires : tie.Need-sqrt-requires
-sqrt-requires c κs = search needs
-
 returns : tie.Need-returns
 unfolding complexCosI ofBits
 returns c =
@@ -28,5 +16,4 @@ returns c =
     )
 
 pub complex-cos-i-spec : {M : Type 1} → statement M
-complex-cos-i-spec =
-    tie.close (tie.spec mul-requires float-div-requires float-sub-requires sqrt-requires returns)
+complex-cos-i-spec = tie.close (tie.spec (λ c κs. search needs) (λ c κs. search needs) (λ c κs. search needs) (λ c κs. search needs) returns)

@@ -4,12 +4,9 @@ use borrow.Author.Needs.{needs}
 use Rattle.optics.proofs.microfacet.constant_eta.Statement.{statement}
 use Rattle.optics.proofs.microfacet.constant_eta.Tie as tie
 
-is-constant-requires : tie.Need-is-constant-requires
-is-constant-requires c κs = search needs
-
 returns : tie.Need-returns
 unfolding constantEta
 returns c = rw (← c .is-constant .ensures)
 
 pub constant-eta-spec : {M : Type 1} → statement M
-constant-eta-spec = tie.close (tie.spec is-constant-requires returns)
+constant-eta-spec = tie.close (tie.spec (λ c κs. search needs) returns)

@@ -4,12 +4,9 @@ use borrow.Author.Needs.{needs}
 use Rattle.optics.proofs.microfacet.eta_at.Statement.{statement}
 use Rattle.optics.proofs.microfacet.eta_at.Tie as tie
 
-sample-one-requires : tie.Need-sample-one-requires
-sample-one-requires c κs = search needs
-
 returns : tie.Need-returns
 unfolding etaAt
 returns c = rw (← c .sample-one .ensures)
 
 pub eta-at-spec : {M : Type 1} → statement M
-eta-at-spec = tie.close (tie.spec sample-one-requires returns)
+eta-at-spec = tie.close (tie.spec (λ c κs. search needs) returns)

@@ -4,15 +4,9 @@ use borrow.Author.Needs.{needs}
 use Rattle.optics.proofs.microfacet.f_at.Statement.{statement}
 use Rattle.optics.proofs.microfacet.f_at.Tie as tie
 
-dot-requires : tie.Need-dot-requires
-dot-requires c κs = search needs
-
-fresnel-requires : tie.Need-fresnel-requires
-fresnel-requires c κs = search needs
-
 returns : tie.Need-returns
 unfolding fAt
 returns c = rw (← c .before .dot .ensures, ← c .fresnel .ensures)
 
 pub f-at-spec : {M : Type 1} → statement M
-f-at-spec = tie.close (tie.spec dot-requires fresnel-requires returns)
+f-at-spec = tie.close (tie.spec (λ c κs. search needs) (λ c κs. search needs) returns)

@@ -5,12 +5,9 @@ use borrow.Author.Needs.{needs}
 use Rattle.optics.proofs.microfacet.f_schlick.Statement.{statement}
 use Rattle.optics.proofs.microfacet.f_schlick.Tie as tie
 
-powi5-requires : tie.Need-powi5-requires
-powi5-requires c κs = search needs
-
 returns : tie.Need-returns
 unfolding fSchlick ofBits
 returns c = rw (← c .powi5 .ensures)
 
 pub f-schlick-spec : {M : Type 1} → statement M
-f-schlick-spec = tie.close (tie.spec powi5-requires returns)
+f-schlick-spec = tie.close (tie.spec (λ c κs. search needs) returns)

@@ -5,21 +5,6 @@ use borrow.Author.Needs.{needs}
 use Rattle.optics.proofs.microfacet.fr_complex_facing.Statement.{statement}
 use Rattle.optics.proofs.microfacet.fr_complex_facing.Tie as tie
 
-complex-cos-i-requires : tie.Need-complex-cos-i-requires
-complex-cos-i-requires c κs = search needs
-
-r-par-requires : tie.Need-r-par-requires
-r-par-requires c κs = search needs
-
-r-per-requires : tie.Need-r-per-requires
-r-per-requires c κs = search needs
-
-norm-sqr-requires : tie.Need-norm-sqr-requires
-norm-sqr-requires c κs = search needs
-
-norm-sqr-requires-2 : tie.Need-norm-sqr-requires-2
-norm-sqr-requires-2 c κs = search needs
-
 returns : tie.Need-returns
 unfolding frComplexFacing ofBits
 returns c =
@@ -34,10 +19,4 @@ returns c =
 pub fr-complex-facing-spec : {M : Type 1} → statement M
 fr-complex-facing-spec =
     tie.close
-    (tie.spec
-    complex-cos-i-requires
-    r-par-requires
-    r-per-requires
-    norm-sqr-requires
-    norm-sqr-requires-2
-    returns)
+    (tie.spec (λ c κs. search needs) (λ c κs. search needs) (λ c κs. search needs) (λ c κs. search needs) (λ c κs. search needs) returns)

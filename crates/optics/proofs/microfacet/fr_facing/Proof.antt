@@ -9,12 +9,9 @@ returns : tie.Need-returns
 unfolding frFacing sin2I isTotal cosI unpolarized contrast meanSquare ofBits
 returns c = rw (c .if1 .taken)
 
-sqrt-or-zero-requires : tie.Need-sqrt-or-zero-requires
-sqrt-or-zero-requires c κs = search needs
-
 returns-2 : tie.Need-returns-2
 unfolding frFacing sin2I isTotal cosI unpolarized contrast meanSquare ofBits
 returns-2 c = rw (c .before .if1 .left, ← c .sqrt-or-zero .ensures)
 
 pub fr-facing-spec : {M : Type 1} → statement M
-fr-facing-spec = tie.close (tie.spec returns sqrt-or-zero-requires returns-2)
+fr-facing-spec = tie.close (tie.spec returns (λ c κs. search needs) returns-2)

@@ -5,33 +5,13 @@ use borrow.Author.Needs.{needs}
 use Rattle.optics.proofs.microfacet.fr_real.Statement.{statement}
 use Rattle.optics.proofs.microfacet.fr_real.Tie as tie
 
-abs-requires : tie.Need-abs-requires
-abs-requires c κs = search needs
-
-fr-facing-requires : tie.Need-fr-facing-requires
-fr-facing-requires c κs = search needs
-
 returns : tie.Need-returns
 unfolding frReal indexFrom ofBits
 returns c = rw (c .before .before .if1 .taken, ← c .before .abs .ensures, ← c .fr-facing .ensures)
-
-abs-requires-2 : tie.Need-abs-requires-2
-abs-requires-2 c κs = search needs
-
-fr-facing-requires-2 : tie.Need-fr-facing-requires-2
-fr-facing-requires-2 c κs = search needs
 
 returns-2 : tie.Need-returns-2
 unfolding frReal indexFrom ofBits
 returns-2 c = rw (c .before .before .if1 .left, ← c .before .abs2 .ensures, ← c .fr-facing2 .ensures)
 
 pub fr-real-spec : {M : Type 1} → statement M
-fr-real-spec =
-    tie.close
-    (tie.spec
-    abs-requires
-    fr-facing-requires
-    returns
-    abs-requires-2
-    fr-facing-requires-2
-    returns-2)
+fr-real-spec = tie.close (tie.spec (λ c κs. search needs) (λ c κs. search needs) returns (λ c κs. search needs) (λ c κs. search needs) returns-2)

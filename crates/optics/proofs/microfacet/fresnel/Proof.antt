@@ -9,20 +9,13 @@ returns : tie.Need-returns
 unfolding fresnel ofBits
 returns c = rw (c .before .if1 .taken, c .if2 .taken)
 
-fr-real-requires : tie.Need-fr-real-requires
-fr-real-requires c κs = search needs
-
 returns-2 : tie.Need-returns-2
 unfolding fresnel ofBits
 returns-2 c = rw (c .before .before .if1 .taken, c .before .if2 .left, ← c .fr-real .ensures)
-
-fr-complex-requires : tie.Need-fr-complex-requires
-fr-complex-requires c κs = search needs
 
 returns-3 : tie.Need-returns-3
 unfolding fresnel ofBits
 returns-3 c = rw (c .before .if1 .left, ← c .fr-complex .ensures)
 
 pub fresnel-spec : {M : Type 1} → statement M
-fresnel-spec =
-    tie.close (tie.spec returns fr-real-requires returns-2 fr-complex-requires returns-3)
+fresnel-spec = tie.close (tie.spec returns (λ c κs. search needs) returns-2 (λ c κs. search needs) returns-3)

@@ -6,9 +6,6 @@ use borrow.Author.Needs.{needs}
 use Rattle.optics.proofs.microfacet.g1_at.Statement.{statement}
 use Rattle.optics.proofs.microfacet.g1_at.Tie as tie
 
-chi-pass-at-requires : tie.Need-chi-pass-at-requires
-chi-pass-at-requires c κs = search needs
-
 returns : tie.Need-returns
 unfolding g1At masked ofBits
 returns c = rw (← c .before .chi-pass-at .ensures, c .if1 .taken)
@@ -18,4 +15,4 @@ unfolding g1At masked ofBits
 returns-2 c = rw (← c .before .chi-pass-at .ensures, c .if1 .left)
 
 pub g1-at-spec : {M : Type 1} → statement M
-g1-at-spec = tie.close (tie.spec chi-pass-at-requires returns returns-2)
+g1-at-spec = tie.close (tie.spec (λ c κs. search needs) returns returns-2)

@@ -4,12 +4,9 @@ use borrow.Author.Needs.{needs}
 use Rattle.optics.proofs.microfacet.k_at.Statement.{statement}
 use Rattle.optics.proofs.microfacet.k_at.Tie as tie
 
-sample-one-requires : tie.Need-sample-one-requires
-sample-one-requires c κs = search needs
-
 returns : tie.Need-returns
 unfolding kAt
 returns c = rw (← c .sample-one .ensures)
 
 pub k-at-spec : {M : Type 1} → statement M
-k-at-spec = tie.close (tie.spec sample-one-requires returns)
+k-at-spec = tie.close (tie.spec (λ c κs. search needs) returns)

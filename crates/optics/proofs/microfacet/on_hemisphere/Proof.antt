@@ -5,12 +5,6 @@ use borrow.Author.Needs.{needs}
 use Rattle.optics.proofs.microfacet.on_hemisphere.Statement.{statement}
 use Rattle.optics.proofs.microfacet.on_hemisphere.Tie as tie
 
-sqrt-or-zero-requires : tie.Need-sqrt-or-zero-requires
-sqrt-or-zero-requires c κs = search needs
-
-sqrt-or-zero-requires-2 : tie.Need-sqrt-or-zero-requires-2
-sqrt-or-zero-requires-2 c κs = search needs
-
 returns : tie.Need-returns
 unfolding onHemisphere diskX diskH diskY diskZ lerp ofBits
 returns c =
@@ -20,5 +14,4 @@ returns c =
     )
 
 pub on-hemisphere-spec : {M : Type 1} → statement M
-on-hemisphere-spec =
-    tie.close (tie.spec sqrt-or-zero-requires sqrt-or-zero-requires-2 returns)
+on-hemisphere-spec = tie.close (tie.spec (λ c κs. search needs) (λ c κs. search needs) returns)

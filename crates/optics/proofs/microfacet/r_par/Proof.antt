@@ -4,18 +4,6 @@ use borrow.Author.Needs.{needs}
 use Rattle.optics.proofs.microfacet.r_par.Statement.{statement}
 use Rattle.optics.proofs.microfacet.r_par.Tie as tie
 
-mul-float-requires : tie.Need-mul-float-requires
-mul-float-requires c κs = search needs
-
-sub-requires : tie.Need-sub-requires
-sub-requires c κs = search needs
-
-add-requires : tie.Need-add-requires
-add-requires c κs = search needs
-
-div-requires : tie.Need-div-requires
-div-requires c κs = search needs
-
 returns : tie.Need-returns
 unfolding rPar
 returns c =
@@ -27,4 +15,4 @@ returns c =
     )
 
 pub r-par-spec : {M : Type 1} → statement M
-r-par-spec = tie.close (tie.spec mul-float-requires sub-requires add-requires div-requires returns)
+r-par-spec = tie.close (tie.spec (λ c κs. search needs) (λ c κs. search needs) (λ c κs. search needs) (λ c κs. search needs) returns)

@@ -4,18 +4,6 @@ use borrow.Author.Needs.{needs}
 use Rattle.optics.proofs.microfacet.r_per.Statement.{statement}
 use Rattle.optics.proofs.microfacet.r_per.Tie as tie
 
-mul-requires : tie.Need-mul-requires
-mul-requires c κs = search needs
-
-float-sub-requires : tie.Need-float-sub-requires
-float-sub-requires c κs = search needs
-
-float-add-requires : tie.Need-float-add-requires
-float-add-requires c κs = search needs
-
-div-requires : tie.Need-div-requires
-div-requires c κs = search needs
-
 returns : tie.Need-returns
 unfolding rPer
 returns c =
@@ -27,5 +15,4 @@ returns c =
     )
 
 pub r-per-spec : {M : Type 1} → statement M
-r-per-spec =
-    tie.close (tie.spec mul-requires float-sub-requires float-add-requires div-requires returns)
+r-per-spec = tie.close (tie.spec (λ c κs. search needs) (λ c κs. search needs) (λ c κs. search needs) (λ c κs. search needs) returns)

@@ -10,15 +10,9 @@ returns : tie.Need-returns
 unfolding tangent epsilon decimal ofBits
 returns c = rw (c .if1 .taken)
 
-cross-requires : tie.Need-cross-requires
-cross-requires c κs = search needs
-
-normalize-requires : tie.Need-normalize-requires
-normalize-requires c κs = search needs
-
 returns-2 : tie.Need-returns-2
 unfolding tangent epsilon decimal ofBits
 returns-2 c = rw (c .before .before .if1 .left, ← c .before .cross .ensures, ← c .normalize .ensures)
 
 pub tangent-spec : {M : Type 1} → statement M
-tangent-spec = tie.close (tie.spec returns cross-requires normalize-requires returns-2)
+tangent-spec = tie.close (tie.spec returns (λ c κs. search needs) (λ c κs. search needs) returns-2)

@@ -5,15 +5,9 @@ use Rattle.path.specs.Bounce.{constantFrom}
 use Rattle.path.proofs.bsdf.bounce.Statement.{statement}
 use Rattle.path.proofs.bsdf.bounce.Tie as tie
 
-check-surface-requires : tie.Need-check-surface-requires
-check-surface-requires c κs = search needs
-
 bounce-with-requires : tie.Need-bounce-with-requires
 unfolding constantFrom
 bounce-with-requires c κs = (c .check-surface .ensures, refl)
 
-returns : tie.Need-returns
-returns c = search needs
-
 pub bounce-spec : {M : Type 1} → statement M
-bounce-spec = tie.close (tie.spec check-surface-requires bounce-with-requires returns)
+bounce-spec = tie.close (tie.spec (λ c κs. search needs) bounce-with-requires (λ c. search needs))

@@ -5,15 +5,6 @@ use borrow.Author.Needs.{needs}
 use Rattle.path.proofs.bsdf.constant_on.Statement.{statement}
 use Rattle.path.proofs.bsdf.constant_on.Tie as tie
 
-enum-told : tie.Need-enum-told
-enum-told c = search needs
-
-enum-told-2 : tie.Need-enum-told-2
-enum-told-2 c = search needs
-
-constant-eta-requires : tie.Need-constant-eta-requires
-constant-eta-requires c κs = search needs
-
 returns : tie.Need-returns
 unfolding constantFrom
 returns c = refl
@@ -23,5 +14,4 @@ unfolding constantFrom
 returns-2 c = c .constant-eta .ensures
 
 pub constant-on-spec : {M : Type 1} → statement M
-constant-on-spec =
-    tie.close (tie.spec enum-told enum-told-2 constant-eta-requires returns returns-2)
+constant-on-spec = tie.close (tie.spec (λ c. search needs) (λ c. search needs) (λ c κs. search needs) returns returns-2)

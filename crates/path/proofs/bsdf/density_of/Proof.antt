@@ -4,9 +4,6 @@ use Rattle.path.specs.Answer.{densityOf}
 use Rattle.path.proofs.bsdf.density_of.Statement.{statement}
 use Rattle.path.proofs.bsdf.density_of.Tie as tie
 
-is-finite-requires : tie.Need-is-finite-requires
-is-finite-requires c κs = search needs
-
 returns : tie.Need-returns
 unfolding densityOf
 returns c = rw (← c .before .is-finite .ensures, c .if1 .taken)
@@ -16,4 +13,4 @@ unfolding densityOf
 returns-2 c = rw (← c .before .is-finite .ensures, c .if1 .left)
 
 pub density-of-spec : {M : Type 1} → statement M
-density-of-spec = tie.close (tie.spec is-finite-requires returns returns-2)
+density-of-spec = tie.close (tie.spec (λ c κs. search needs) returns returns-2)

@@ -4,15 +4,6 @@ use borrow.Author.Needs.{needs}
 use Rattle.path.proofs.bsdf.is_constant.Statement.{statement}
 use Rattle.path.proofs.bsdf.is_constant.Tie as tie
 
-enum-known-constant : tie.Need-enum-known-constant
-enum-known-constant c = search needs
-
-enum-told : tie.Need-enum-told
-enum-told c = search needs
-
-constant-eta-requires : tie.Need-constant-eta-requires
-constant-eta-requires c κs = search needs
-
 returns : tie.Need-returns
 unfolding constantFrom
 returns c = rw (c .before .constant .given .1)
@@ -22,5 +13,4 @@ unfolding constantFrom
 returns-2 c = rw (c .before .enum-told .given .1, ← c .constant-eta .ensures)
 
 pub is-constant-spec : {M : Type 1} → statement M
-is-constant-spec =
-    tie.close (tie.spec enum-known-constant enum-told constant-eta-requires returns returns-2)
+is-constant-spec = tie.close (tie.spec (λ c. search needs) (λ c. search needs) (λ c κs. search needs) returns returns-2)

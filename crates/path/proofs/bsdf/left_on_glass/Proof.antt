@@ -4,20 +4,13 @@ use Rattle.path.specs.Bounce.{leftOnGlass}
 use Rattle.path.proofs.bsdf.left_on_glass.Statement.{statement}
 use Rattle.path.proofs.bsdf.left_on_glass.Tie as tie
 
-is-constant-requires : tie.Need-is-constant-requires
-is-constant-requires c κs = search needs
-
 returns : tie.Need-returns
 unfolding leftOnGlass
 returns c = rw (← c .before .before .before .pre, ← c .before .is-constant .ensures, c .if1 .taken)
-
-terminate-requires : tie.Need-terminate-requires
-terminate-requires c κs = search needs
 
 returns-2 : tie.Need-returns-2
 unfolding leftOnGlass
 returns-2 c = rw (← c .before .before .before .before .pre, ← c .before .before .is-constant .ensures, c .before .if1 .left, ← c .terminate .ensures)
 
 pub left-on-glass-spec : {M : Type 1} → statement M
-left-on-glass-spec =
-    tie.close (tie.spec is-constant-requires returns terminate-requires returns-2)
+left-on-glass-spec = tie.close (tie.spec (λ c κs. search needs) returns (λ c κs. search needs) returns-2)

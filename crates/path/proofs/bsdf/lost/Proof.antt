@@ -5,12 +5,9 @@ use Rattle.path.specs.Answer.{outcome}
 use Rattle.path.proofs.bsdf.lost.Statement.{statement}
 use Rattle.path.proofs.bsdf.lost.Tie as tie
 
-weighed-requires : tie.Need-weighed-requires
-weighed-requires c κs = search needs
-
 returns : tie.Need-returns
 unfolding outcome ofBits
 returns c = rw (← c .weighed .ensures)
 
 pub lost-spec : {M : Type 1} → statement M
-lost-spec = tie.close (tie.spec weighed-requires returns)
+lost-spec = tie.close (tie.spec (λ c κs. search needs) returns)

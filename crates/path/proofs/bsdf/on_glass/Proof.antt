@@ -9,39 +9,6 @@ use Rattle.path.proofs.Direction.{no-direction, no-weight}
 use Rattle.path.proofs.bsdf.on_glass.Statement.{statement}
 use Rattle.path.proofs.bsdf.on_glass.Tie as tie
 
-left-on-glass-requires : tie.Need-left-on-glass-requires
-left-on-glass-requires c κs = search needs
-
-leading-sample-requires : tie.Need-leading-sample-requires
-leading-sample-requires c κs = search needs
-
-eta-at-requires : tie.Need-eta-at-requires
-eta-at-requires c κs = search needs
-
-k-at-requires : tie.Need-k-at-requires
-k-at-requires c κs = search needs
-
-new-requires : tie.Need-new-requires
-new-requires c κs = search needs
-
-to-local-requires : tie.Need-to-local-requires
-to-local-requires c κs = search needs
-
-normal-requires : tie.Need-normal-requires
-normal-requires c κs = search needs
-
-f-at-requires : tie.Need-f-at-requires
-f-at-requires c κs = search needs
-
-sample-from-requires : tie.Need-sample-from-requires
-sample-from-requires c κs = search needs
-
-enum-known-wi : tie.Need-enum-known-wi
-enum-known-wi c = search needs
-
-lost-requires : tie.Need-lost-requires
-lost-requires c κs = search needs
-
 returns : tie.Need-returns
 unfolding onSurface lambdaOn leftOn scatter scatterOn localWo leadingEta facet facetOf share fresnelAt shares sharesOn rest advanced weights ofBits
 returns c =
@@ -89,21 +56,6 @@ returns c =
       ← share-of,
       ← c .lost .ensures,
     )
-
-seen-on-glass-requires : tie.Need-seen-on-glass-requires
-seen-on-glass-requires c κs = search needs
-
-density-of-requires : tie.Need-density-of-requires
-density-of-requires c κs = search needs
-
-to-world-requires : tie.Need-to-world-requires
-to-world-requires c κs = search needs
-
-weights-requires : tie.Need-weights-requires
-weights-requires c κs = search needs
-
-weighed-requires : tie.Need-weighed-requires
-weighed-requires c κs = search needs
 
 returns-2 : tie.Need-returns-2
 unfolding onSurface lambdaOn leftOn scatter scatterOn localWo leadingEta facet facetOf share fresnelAt shares sharesOn rest advanced weights ofBits worked weightFrom branchOf density pdf pdfOf filter shadowingOn oneDirection outcome sampled
@@ -158,12 +110,6 @@ returns-2 c =
       at-weights .weights .ensures,
       at-seen .seen-on-glass .ensures .1,
     )
-
-weights-requires-2 : tie.Need-weights-requires-2
-weights-requires-2 c κs = search needs
-
-weighed-requires-2 : tie.Need-weighed-requires-2
-weighed-requires-2 c κs = search needs
 
 returns-3 : tie.Need-returns-3
 unfolding onSurface lambdaOn leftOn scatter scatterOn localWo leadingEta facet facetOf share fresnelAt shares sharesOn rest advanced weights ofBits worked weightFrom branchOf density pdf pdfOf filter shadowingOn oneDirection outcome sampled
@@ -222,25 +168,7 @@ returns-3 c =
 pub on-glass-spec : {M : Type 1} → statement M
 on-glass-spec =
     tie.close
-    (tie.spec
-    left-on-glass-requires
-    leading-sample-requires
-    eta-at-requires
-    k-at-requires
-    new-requires
-    to-local-requires
-    normal-requires
-    f-at-requires
-    sample-from-requires
-    enum-known-wi
-    lost-requires
-    returns
-    seen-on-glass-requires
-    density-of-requires
-    to-world-requires
-    weights-requires
-    weighed-requires
-    returns-2
-    weights-requires-2
-    weighed-requires-2
-    returns-3)
+    (tie.spec (λ c κs. search needs) (λ c κs. search needs) (λ c κs. search needs) (λ c κs. search needs) (λ c κs. search needs)
+    (λ c κs. search needs) (λ c κs. search needs) (λ c κs. search needs) (λ c κs. search needs) (λ c. search needs) (λ c κs. search needs) returns
+    (λ c κs. search needs) (λ c κs. search needs) (λ c κs. search needs) (λ c κs. search needs) (λ c κs. search needs) returns-2
+    (λ c κs. search needs) (λ c κs. search needs) returns-3)

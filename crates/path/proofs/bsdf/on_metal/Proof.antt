@@ -9,33 +9,12 @@ use Rattle.path.proofs.Direction.{no-direction, no-weight, metal-reflec
 use Rattle.path.proofs.bsdf.on_metal.Statement.{statement}
 use Rattle.path.proofs.bsdf.on_metal.Tie as tie
 
-lost-requires : tie.Need-lost-requires
-lost-requires c κs = search needs
-
 returns : tie.Need-returns
 unfolding onSurface lambdaOn leftOn scatter scatterOn localWo facet facetOf shares sharesOn advanced weights worked weightFrom
 returns c =
     let at-if1 = c .before in
     let at-pre = at-if1 .before .before .before in
     rw (at-pre .pre, at-if1 .if1 .taken, ← c .lost .ensures)
-
-new-requires : tie.Need-new-requires
-new-requires c κs = search needs
-
-to-local-requires : tie.Need-to-local-requires
-to-local-requires c κs = search needs
-
-normal-requires : tie.Need-normal-requires
-normal-requires c κs = search needs
-
-sample-from-requires : tie.Need-sample-from-requires
-sample-from-requires c κs = search needs
-
-enum-known-wi : tie.Need-enum-known-wi
-enum-known-wi c = search needs
-
-lost-requires-2 : tie.Need-lost-requires-2
-lost-requires-2 c κs = search needs
 
 returns-2 : tie.Need-returns-2
 unfolding onSurface lambdaOn leftOn scatter scatterOn localWo facet facetOf shares sharesOn advanced weights
@@ -62,27 +41,6 @@ returns-2 c =
       no-direction _ none,
       ← c .lost2 .ensures,
     )
-
-seen-on-metal-requires : tie.Need-seen-on-metal-requires
-seen-on-metal-requires c κs = search needs
-
-f-requires : tie.Need-f-requires
-f-requires c κs = search needs
-
-metal-filter-requires : tie.Need-metal-filter-requires
-metal-filter-requires c κs = search needs
-
-to-world-requires : tie.Need-to-world-requires
-to-world-requires c κs = search needs
-
-density-of-requires : tie.Need-density-of-requires
-density-of-requires c κs = search needs
-
-weights-requires : tie.Need-weights-requires
-weights-requires c κs = search needs
-
-weighed-requires : tie.Need-weighed-requires
-weighed-requires c κs = search needs
 
 returns-3 : tie.Need-returns-3
 unfolding onSurface lambdaOn leftOn scatter scatterOn localWo facet facetOf shares sharesOn advanced weights worked weightFrom branchOf density pdf pdfOf filter fresnelAt shadowingOn oneDirection outcome sampled f
@@ -130,21 +88,6 @@ returns-3 c =
 pub on-metal-spec : {M : Type 1} → statement M
 on-metal-spec =
     tie.close
-    (tie.spec
-    lost-requires
-    returns
-    new-requires
-    to-local-requires
-    normal-requires
-    sample-from-requires
-    enum-known-wi
-    lost-requires-2
-    returns-2
-    seen-on-metal-requires
-    f-requires
-    metal-filter-requires
-    to-world-requires
-    density-of-requires
-    weights-requires
-    weighed-requires
-    returns-3)
+    (tie.spec (λ c κs. search needs) returns (λ c κs. search needs) (λ c κs. search needs) (λ c κs. search needs) (λ c κs. search needs)
+    (λ c. search needs) (λ c κs. search needs) returns-2 (λ c κs. search needs) (λ c κs. search needs) (λ c κs. search needs) (λ c κs. search needs)
+    (λ c κs. search needs) (λ c κs. search needs) (λ c κs. search needs) returns-3)

@@ -5,18 +5,6 @@ use Rattle.optics.proofs.SharedTerms.{glass-density}
 use Rattle.path.proofs.bsdf.seen_on_glass.Statement.{statement}
 use Rattle.path.proofs.bsdf.seen_on_glass.Tie as tie
 
-is-smooth-requires : tie.Need-is-smooth-requires
-is-smooth-requires c κs = search needs
-
-lambda-unless-requires : tie.Need-lambda-unless-requires
-lambda-unless-requires c κs = search needs
-
-pdf-with-requires : tie.Need-pdf-with-requires
-pdf-with-requires c κs = search needs
-
-shadowing-requires : tie.Need-shadowing-requires
-shadowing-requires c κs = search needs
-
 returns : tie.Need-returns
 returns c =
     let at-pdf-with = c .before in
@@ -27,6 +15,4 @@ returns c =
     )
 
 pub seen-on-glass-spec : {M : Type 1} → statement M
-seen-on-glass-spec =
-    tie.close
-    (tie.spec is-smooth-requires lambda-unless-requires pdf-with-requires shadowing-requires returns)
+seen-on-glass-spec = tie.close (tie.spec (λ c κs. search needs) (λ c κs. search needs) (λ c κs. search needs) (λ c κs. search needs) returns)

@@ -5,18 +5,6 @@ use Rattle.optics.proofs.SharedTerms.{metal-density}
 use Rattle.path.proofs.bsdf.seen_on_metal.Statement.{statement}
 use Rattle.path.proofs.bsdf.seen_on_metal.Tie as tie
 
-is-delta-requires : tie.Need-is-delta-requires
-is-delta-requires c κs = search needs
-
-lambda-unless-requires : tie.Need-lambda-unless-requires
-lambda-unless-requires c κs = search needs
-
-pdf-with-requires : tie.Need-pdf-with-requires
-pdf-with-requires c κs = search needs
-
-shadowing-requires : tie.Need-shadowing-requires
-shadowing-requires c κs = search needs
-
 returns : tie.Need-returns
 returns c =
     let at-pdf-with = c .before in
@@ -27,6 +15,4 @@ returns c =
     )
 
 pub seen-on-metal-spec : {M : Type 1} → statement M
-seen-on-metal-spec =
-    tie.close
-    (tie.spec is-delta-requires lambda-unless-requires pdf-with-requires shadowing-requires returns)
+seen-on-metal-spec = tie.close (tie.spec (λ c κs. search needs) (λ c κs. search needs) (λ c κs. search needs) (λ c κs. search needs) returns)

@@ -4,24 +4,6 @@ use Rattle.path.specs.Many.{numbersOut, resultNumbers}
 use Rattle.path.proofs.many.numbers_out.Statement.{statement}
 use Rattle.path.proofs.many.numbers_out.Tie as tie
 
-path-in-requires : tie.Need-path-in-requires
-path-in-requires c κs = search needs
-
-of-bounced-requires : tie.Need-of-bounced-requires
-of-bounced-requires c κs = search needs
-
-nearest-u64-to-f64-requires : tie.Need-nearest-u64-to-f64-requires
-nearest-u64-to-f64-requires c κs = search needs
-
-nearest-u64-to-f64-requires-2 : tie.Need-nearest-u64-to-f64-requires-2
-nearest-u64-to-f64-requires-2 c κs = search needs
-
-nearest-u64-to-f64-requires-3 : tie.Need-nearest-u64-to-f64-requires-3
-nearest-u64-to-f64-requires-3 c κs = search needs
-
-nearest-u64-to-f64-requires-4 : tie.Need-nearest-u64-to-f64-requires-4
-nearest-u64-to-f64-requires-4 c κs = search needs
-
 returns : tie.Need-returns
 unfolding numbersOut resultNumbers
 returns c = rw (← c .before .before .before .before .before .path-in .ensures, ← c .before .before .before .before .of-bounced .ensures, ← c .before .before .before .nearest-u64-to-f64 .ensures, ← c .before .before .nearest-u64-to-f642 .ensures, ← c .before .nearest-u64-to-f643 .ensures, ← c .nearest-u64-to-f644 .ensures)
@@ -29,11 +11,5 @@ returns c = rw (← c .before .before .before .before .before .path-in .ensures,
 pub numbers-out-spec : {M : Type 1} → statement M
 numbers-out-spec =
     tie.close
-    (tie.spec
-    path-in-requires
-    of-bounced-requires
-    nearest-u64-to-f64-requires
-    nearest-u64-to-f64-requires-2
-    nearest-u64-to-f64-requires-3
-    nearest-u64-to-f64-requires-4
-    returns)
+    (tie.spec (λ c κs. search needs) (λ c κs. search needs) (λ c κs. search needs) (λ c κs. search needs) (λ c κs. search needs)
+    (λ c κs. search needs) returns)

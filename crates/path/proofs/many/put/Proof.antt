@@ -32,27 +32,6 @@ loop-holds : tie.Need-loop-holds Inv-loop μ-loop
 loop-holds c =
     (omega arith, paste-zero (now (c .args .output)) (c .args .at) (now (c .args .numbers)), refl, c .pre .1)
 
-mul-output : tie.Need-mul-output Inv-loop μ-loop
-mul-output c = search needs
-
-element-copy-out-output : tie.Need-element-copy-out-output Inv-loop μ-loop
-element-copy-out-output c = search needs
-
-add-output : tie.Need-add-output Inv-loop μ-loop
-add-output c = omega arith
-
-mul-output-2 : tie.Need-mul-output-2 Inv-loop μ-loop
-mul-output-2 c = search needs
-
-slice-write-output : tie.Need-slice-write-output Inv-loop μ-loop
-slice-write-output c = omega arith
-
-add-j : tie.Need-add-j Inv-loop μ-loop
-add-j c = omega arith
-
-loop-less : tie.Need-loop-less Inv-loop μ-loop
-loop-less c = omega arith
-
 loop-again : tie.Need-loop-again Inv-loop μ-loop
 loop-again c =
     let at-loop = c .before .before in
@@ -78,17 +57,5 @@ returns c =
 pub put-spec : {M : Type 1} → statement M
 put-spec =
     tie.close
-    (tie.spec
-    Inv-loop
-    μ-loop
-    loop-holds
-    mul-output
-    element-copy-out-output
-    add-output
-    mul-output-2
-    slice-write-output
-    add-j
-    loop-less
-    loop-again
-    same-length
-    returns)
+    (tie.spec Inv-loop μ-loop loop-holds (λ c. search needs) (λ c. search needs) (λ c. omega arith) (λ c. search needs) (λ c. omega arith)
+    (λ c. omega arith) (λ c. omega arith) loop-again same-length returns)

@@ -45,12 +45,6 @@ loop-holds c = (omega arith, refl, refl)
 step-requires : tie.Need-step-requires Inv-loop μ-loop
 step-requires c κs = (omega arith, omega arith, c .before .before .before .before .before .before .before .pre .2, c .before .before .before .before .before .before .before .pre .3)
 
-add-i : tie.Need-add-i Inv-loop μ-loop
-add-i c = omega arith
-
-loop-less : tie.Need-loop-less Inv-loop μ-loop
-loop-less c = omega arith
-
 loop-again : tie.Need-loop-again Inv-loop μ-loop
 loop-again c =
     let at-loop = c .before .before .before .before .before in
@@ -76,6 +70,4 @@ returns c =
     (le-antisymm (at-loop .loop .inv .0) (c .loop-test .left))
 
 pub run-spec : {M : Type 1} → statement M
-run-spec =
-    tie.close
-    (tie.spec Inv-loop μ-loop loop-holds step-requires add-i loop-less loop-again same-length returns)
+run-spec = tie.close (tie.spec Inv-loop μ-loop loop-holds step-requires (λ c. omega arith) (λ c. omega arith) loop-again same-length returns)

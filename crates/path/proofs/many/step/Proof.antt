@@ -14,35 +14,8 @@ use Rattle.path.proofs.ManyBounces.{length-bounced}
 use Rattle.path.proofs.many.step.Statement.{statement}
 use Rattle.path.proofs.many.step.Tie as tie
 
-mul-from : tie.Need-mul-from
-mul-from c = search needs
-
-add-end : tie.Need-add-end
-add-end c = search needs
-
-mul-one : tie.Need-mul-one
-mul-one c = search needs
-
-sub-one : tie.Need-sub-one
-sub-one c = search needs
-
-part-one-start : tie.Need-part-one-start
-part-one-start c = search needs
-
-part-one-end : tie.Need-part-one-end
-part-one-end c = search needs
-
-one-requires : tie.Need-one-requires
-one-requires c κs = search needs
-
-mul-put : tie.Need-mul-put
-mul-put c = search needs
-
 put-requires : tie.Need-put-requires
 put-requires c κs = (omega arith, ap length (c .before .before .one .ensures) ∙ length-bounced _ _)
-
-same-length : tie.Need-same-length
-same-length c = search needs
 
 -- as many as there are from a number up to 27 more
 span : (n : ℕ) → n + 27 - n ≡ 27
@@ -62,15 +35,5 @@ returns c =
 pub step-spec : {M : Type 1} → statement M
 step-spec =
     tie.close
-    (tie.spec
-    mul-from
-    add-end
-    mul-one
-    sub-one
-    part-one-start
-    part-one-end
-    one-requires
-    mul-put
-    put-requires
-    same-length
-    returns)
+    (tie.spec (λ c. search needs) (λ c. search needs) (λ c. search needs) (λ c. search needs) (λ c. search needs) (λ c. search needs)
+    (λ c κs. search needs) (λ c. search needs) put-requires (λ c. search needs) returns)

@@ -5,12 +5,6 @@ use Rattle.path.specs.Plain.{sharesRecord}
 use Rattle.path.proofs.plain.of_shares.Statement.{statement}
 use Rattle.path.proofs.plain.of_shares.Tie as tie
 
-enum-told : tie.Need-enum-told
-enum-told c = search needs
-
-enum-known-shares : tie.Need-enum-known-shares
-enum-known-shares c = search needs
-
 returns : tie.Need-returns
 unfolding sharesRecord ofBits
 returns c = rw (c .enum-told .given .1)
@@ -20,4 +14,4 @@ unfolding sharesRecord ofBits
 returns-2 c = rw (c .before .shares .given .1)
 
 pub of-shares-spec : {M : Type 1} → statement M
-of-shares-spec = tie.close (tie.spec enum-told enum-known-shares returns returns-2)
+of-shares-spec = tie.close (tie.spec (λ c. search needs) (λ c. search needs) returns returns-2)

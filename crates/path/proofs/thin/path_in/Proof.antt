@@ -4,18 +4,6 @@ use Rattle.path.specs.Answer.{outcome, pathOf}
 use Rattle.path.proofs.thin.path_in.Statement.{statement}
 use Rattle.path.proofs.thin.path_in.Tie as tie
 
-enum-known-answer : tie.Need-enum-known-answer
-enum-known-answer c = search needs
-
-enum-known-answer-2 : tie.Need-enum-known-answer-2
-enum-known-answer-2 c = search needs
-
-enum-known-answer-3 : tie.Need-enum-known-answer-3
-enum-known-answer-3 c = search needs
-
-enum-known-answer-4 : tie.Need-enum-known-answer-4
-enum-known-answer-4 c = search needs
-
 returns : tie.Need-returns
 unfolding outcome pathOf
 returns c = rw (c .before .answer .given .1)
@@ -35,4 +23,4 @@ returns-4 c = rw (c .before .answer4 .given .1)
 pub path-in-spec : {M : Type 1} → statement M
 path-in-spec =
     tie.close
-    (tie.spec enum-known-answer enum-known-answer-2 enum-known-answer-3 enum-known-answer-4 returns returns-2 returns-3 returns-4)
+    (tie.spec (λ c. search needs) (λ c. search needs) (λ c. search needs) (λ c. search needs) returns returns-2 returns-3 returns-4)

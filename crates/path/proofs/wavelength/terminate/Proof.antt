@@ -5,12 +5,9 @@ use Rattle.path.specs.Path.{terminate, leading}
 use Rattle.path.proofs.wavelength.terminate.Statement.{statement}
 use Rattle.path.proofs.wavelength.terminate.Tie as tie
 
-leading-sample-requires : tie.Need-leading-sample-requires
-leading-sample-requires c κs = search needs
-
 returns : tie.Need-returns
 unfolding terminate leading ofBits
 returns c = rw (← c .leading-sample .ensures)
 
 pub terminate-spec : {M : Type 1} → statement M
-terminate-spec = tie.close (tie.spec leading-sample-requires returns)
+terminate-spec = tie.close (tie.spec (λ c κs. search needs) returns)

@@ -4,18 +4,6 @@ use Rattle.path.specs.Bounce.{metalFilter}
 use Rattle.path.proofs.weight.metal_filter.Statement.{statement}
 use Rattle.path.proofs.weight.metal_filter.Tie as tie
 
-metal-share-requires : tie.Need-metal-share-requires
-metal-share-requires c κs = search needs
-
-metal-share-requires-2 : tie.Need-metal-share-requires-2
-metal-share-requires-2 c κs = search needs
-
-metal-share-requires-3 : tie.Need-metal-share-requires-3
-metal-share-requires-3 c κs = search needs
-
-metal-share-requires-4 : tie.Need-metal-share-requires-4
-metal-share-requires-4 c κs = search needs
-
 returns : tie.Need-returns
 unfolding metalFilter
 returns c =
@@ -31,11 +19,4 @@ returns c =
     )
 
 pub metal-filter-spec : {M : Type 1} → statement M
-metal-filter-spec =
-    tie.close
-    (tie.spec
-    metal-share-requires
-    metal-share-requires-2
-    metal-share-requires-3
-    metal-share-requires-4
-    returns)
+metal-filter-spec = tie.close (tie.spec (λ c κs. search needs) (λ c κs. search needs) (λ c κs. search needs) (λ c κs. search needs) returns)

@@ -10,12 +10,6 @@ returns : tie.Need-returns
 unfolding shadowing ofBits
 returns c = rw (c .if1 .taken)
 
-dot-requires : tie.Need-dot-requires
-dot-requires c κs = search needs
-
-g-over-g1-at-requires : tie.Need-g-over-g1-at-requires
-g-over-g1-at-requires c κs = search needs
-
 returns-2 : tie.Need-returns-2
 unfolding shadowing
 returns-2 c =
@@ -30,4 +24,4 @@ returns-2 c =
     )
 
 pub shadowing-spec : {M : Type 1} → statement M
-shadowing-spec = tie.close (tie.spec returns dot-requires g-over-g1-at-requires returns-2)
+shadowing-spec = tie.close (tie.spec returns (λ c κs. search needs) (λ c κs. search needs) returns-2)

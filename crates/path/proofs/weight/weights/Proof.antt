@@ -3,18 +3,6 @@ use borrow.Author.Needs.{needs}
 use Rattle.path.proofs.weight.weights.Statement.{statement}
 use Rattle.path.proofs.weight.weights.Tie as tie
 
-weight-requires : tie.Need-weight-requires
-weight-requires c κs = search needs
-
-weight-requires-2 : tie.Need-weight-requires-2
-weight-requires-2 c κs = search needs
-
-weight-requires-3 : tie.Need-weight-requires-3
-weight-requires-3 c κs = search needs
-
-weight-requires-4 : tie.Need-weight-requires-4
-weight-requires-4 c κs = search needs
-
 returns : tie.Need-returns
 returns c =
     let at-weight3 = c .before in
@@ -28,11 +16,4 @@ returns c =
     )
 
 pub weights-spec : {M : Type 1} → statement M
-weights-spec =
-    tie.close
-    (tie.spec
-    weight-requires
-    weight-requires-2
-    weight-requires-3
-    weight-requires-4
-    returns)
+weights-spec = tie.close (tie.spec (λ c κs. search needs) (λ c κs. search needs) (λ c κs. search needs) (λ c κs. search needs) returns)

@@ -9,17 +9,8 @@ use Rattle.rays.proofs.line.float_of.Statement.{statement}
 use Rattle.rays.proofs.line.float_of.Tie as tie
 use Rattle.numbers.proofs.float.nan.Reads as nan-reads
 
-nan-requires : tie.Need-nan-requires
-nan-requires c κs = search needs
-
-returns : tie.Need-returns
-returns c = search needs
-
 float-from-bits-result : tie.Need-float-from-bits-result
 float-from-bits-result c = rw (nanBits-above binary64 (c .before .args .bits)) (le→nltb 9218868437227405312 (c .before .args .bits % 9223372036854775808) (omega arith))
 
-returns-2 : tie.Need-returns-2
-returns-2 c = search needs
-
 pub float-of-spec : {M : Type 1} → statement M
-float-of-spec = tie.close (tie.spec nan-requires returns float-from-bits-result returns-2)
+float-of-spec = tie.close (tie.spec (λ c κs. search needs) (λ c. search needs) float-from-bits-result (λ c. search needs))

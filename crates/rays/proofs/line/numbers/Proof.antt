@@ -13,21 +13,6 @@ Inv-loop text values₀ now₀ i₀ values now i = length values ≡ length valu
 abbrev μ-loop : tie.MeasureT-loop
 μ-loop text values₀ now₀ i₀ values now i = length values₀ - i
 
-loop-holds : tie.Need-loop-holds Inv-loop μ-loop
-loop-holds c = refl
-
-number-requires : tie.Need-number-requires Inv-loop μ-loop
-number-requires c κs = tt
-
-mul-values : tie.Need-mul-values Inv-loop μ-loop
-mul-values c = search needs
-
-slice-write-values : tie.Need-slice-write-values Inv-loop μ-loop
-slice-write-values c = omega arith
-
-add-i : tie.Need-add-i Inv-loop μ-loop
-add-i c = omega arith
-
 loop-less : tie.Need-loop-less Inv-loop μ-loop
 loop-less c = omega (arith, c .before .before .before .loop .inv)
 
@@ -37,21 +22,8 @@ loop-again c = length-set (c .before .before .before .loop .values) (c .before .
 same-length : tie.Need-same-length Inv-loop μ-loop
 same-length c = c .before .loop .inv
 
-returns : tie.Need-returns Inv-loop μ-loop
-returns c = tt
-
 pub numbers-spec : {M : Type 1} → statement M
 numbers-spec =
     tie.close
-    (tie.spec
-    Inv-loop
-    μ-loop
-    loop-holds
-    number-requires
-    mul-values
-    slice-write-values
-    add-i
-    loop-less
-    loop-again
-    same-length
-    returns)
+    (tie.spec Inv-loop μ-loop (λ c. refl) (λ c κs. tt) (λ c. search needs) (λ c. omega arith) (λ c. omega arith) loop-less loop-again same-length
+    (λ c. tt))

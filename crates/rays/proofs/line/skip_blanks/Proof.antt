@@ -11,45 +11,8 @@ Inv-loop text from at₀ at = Unit {0}
 abbrev μ-loop : tie.MeasureT-loop
 μ-loop text from at₀ at = length text - at
 
-loop-holds : tie.Need-loop-holds Inv-loop μ-loop
-loop-holds c = tt
-
-shared-slice-read-b : tie.Need-shared-slice-read-b Inv-loop μ-loop
-shared-slice-read-b c = omega arith
-
-returns : tie.Need-returns Inv-loop μ-loop
-returns c = tt
-
-is-blank-requires : tie.Need-is-blank-requires Inv-loop μ-loop
-is-blank-requires c κs = tt
-
-returns-2 : tie.Need-returns-2 Inv-loop μ-loop
-returns-2 c = tt
-
-add-at : tie.Need-add-at Inv-loop μ-loop
-add-at c = omega arith
-
-loop-less : tie.Need-loop-less Inv-loop μ-loop
-loop-less c = omega arith
-
-loop-again : tie.Need-loop-again Inv-loop μ-loop
-loop-again c = tt
-
-returns-3 : tie.Need-returns-3 Inv-loop μ-loop
-returns-3 c = tt
-
 pub skip-blanks-spec : {M : Type 1} → statement M
 skip-blanks-spec =
     tie.close
-    (tie.spec
-    Inv-loop
-    μ-loop
-    loop-holds
-    shared-slice-read-b
-    returns
-    is-blank-requires
-    returns-2
-    add-at
-    loop-less
-    loop-again
-    returns-3)
+    (tie.spec Inv-loop μ-loop (λ c. tt) (λ c. omega arith) (λ c. tt) (λ c κs. tt) (λ c. tt) (λ c. omega arith) (λ c. omega arith) (λ c. tt)
+    (λ c. tt))

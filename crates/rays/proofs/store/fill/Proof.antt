@@ -13,21 +13,6 @@ Inv-loop values₀ x i₀ values i = length values ≡ length values₀
 abbrev μ-loop : tie.MeasureT-loop
 μ-loop values₀ x i₀ values i = length values₀ - i
 
-at-requires : tie.Need-at-requires Inv-loop μ-loop
-at-requires c κs = tt
-
-loop-holds : tie.Need-loop-holds Inv-loop μ-loop
-loop-holds c = refl
-
-mul-values : tie.Need-mul-values Inv-loop μ-loop
-mul-values c = search needs
-
-slice-write-values : tie.Need-slice-write-values Inv-loop μ-loop
-slice-write-values c = omega arith
-
-add-i : tie.Need-add-i Inv-loop μ-loop
-add-i c = omega arith
-
 loop-less : tie.Need-loop-less Inv-loop μ-loop
 loop-less c = omega (arith, c .before .loop .inv)
 
@@ -37,21 +22,8 @@ loop-again c = length-set (c .before .loop .values) (c .before .loop .i) (c .bef
 same-length : tie.Need-same-length Inv-loop μ-loop
 same-length c = c .before .loop .inv
 
-returns : tie.Need-returns Inv-loop μ-loop
-returns c = tt
-
 pub fill-spec : {M : Type 1} → statement M
 fill-spec =
     tie.close
-    (tie.spec
-    Inv-loop
-    μ-loop
-    at-requires
-    loop-holds
-    mul-values
-    slice-write-values
-    add-i
-    loop-less
-    loop-again
-    same-length
-    returns)
+    (tie.spec Inv-loop μ-loop (λ c κs. tt) (λ c. refl) (λ c. search needs) (λ c. omega arith) (λ c. omega arith) loop-less loop-again same-length
+    (λ c. tt))

@@ -13,21 +13,6 @@ Inv-loop fd n entries₀ i₀ entries i = length entries ≡ length entries₀
 abbrev μ-loop : tie.MeasureT-loop
 μ-loop fd n entries₀ i₀ entries i = length entries₀ - i
 
-loop-holds : tie.Need-loop-holds Inv-loop μ-loop
-loop-holds c = refl
-
-float-if-requires : tie.Need-float-if-requires Inv-loop μ-loop
-float-if-requires c κs = tt
-
-mul-entries : tie.Need-mul-entries Inv-loop μ-loop
-mul-entries c = search needs
-
-slice-write-entries : tie.Need-slice-write-entries Inv-loop μ-loop
-slice-write-entries c = omega arith
-
-add-i : tie.Need-add-i Inv-loop μ-loop
-add-i c = omega arith
-
 loop-less : tie.Need-loop-less Inv-loop μ-loop
 loop-less c = omega (arith, c .before .before .loop .inv)
 
@@ -37,8 +22,8 @@ loop-again c = length-set (c .before .before .loop .entries) (c .before .before 
 same-length : tie.Need-same-length Inv-loop μ-loop
 same-length c = c .before .loop .inv
 
-returns : tie.Need-returns Inv-loop μ-loop
-returns c = tt
-
 pub read-entries-spec : {M : Type 1} → statement M
-read-entries-spec = tie.close (tie.spec Inv-loop μ-loop loop-holds float-if-requires mul-entries slice-write-entries add-i loop-less loop-again same-length returns)
+read-entries-spec =
+    tie.close
+    (tie.spec Inv-loop μ-loop (λ c. refl) (λ c κs. tt) (λ c. search needs) (λ c. omega arith) (λ c. omega arith) loop-less loop-again same-length
+    (λ c. tt))

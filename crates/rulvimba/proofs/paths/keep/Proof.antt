@@ -5,27 +5,6 @@ use Rattle.rulvimba.specs.Paths.{pathAfter}
 use Rattle.rulvimba.proofs.paths.keep.Statement.{statement}
 use Rattle.rulvimba.proofs.paths.keep.Tie as tie
 
-enum-told : tie.Need-enum-told
-enum-told c = search needs
-
-enum-known-answer : tie.Need-enum-known-answer
-enum-known-answer c = search needs
-
-store-requires : tie.Need-store-requires
-store-requires c κs = search needs
-
-enum-known-answer-2 : tie.Need-enum-known-answer-2
-enum-known-answer-2 c = search needs
-
-store-requires-2 : tie.Need-store-requires-2
-store-requires-2 c κs = search needs
-
-enum-known-answer-3 : tie.Need-enum-known-answer-3
-enum-known-answer-3 c = search needs
-
-store-requires-3 : tie.Need-store-requires-3
-store-requires-3 c κs = search needs
-
 returns : tie.Need-returns
 unfolding pathAfter outcome
 returns c = rw (c .enum-told .given .1)
@@ -45,15 +24,5 @@ returns-4 c = rw (c .before .before .before .answer3 .given .1, ← c .store3 .e
 pub keep-spec : {M : Type 1} → statement M
 keep-spec =
     tie.close
-    (tie.spec
-    enum-told
-    enum-known-answer
-    store-requires
-    enum-known-answer-2
-    store-requires-2
-    enum-known-answer-3
-    store-requires-3
-    returns
-    returns-2
-    returns-3
-    returns-4)
+    (tie.spec (λ c. search needs) (λ c. search needs) (λ c κs. search needs) (λ c. search needs) (λ c κs. search needs) (λ c. search needs)
+    (λ c κs. search needs) returns returns-2 returns-3 returns-4)

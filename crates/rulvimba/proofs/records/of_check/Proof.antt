@@ -5,15 +5,6 @@ use Rattle.rulvimba.specs.Results.{checkNumber}
 use Rattle.rulvimba.proofs.records.of_check.Statement.{statement}
 use Rattle.rulvimba.proofs.records.of_check.Tie as tie
 
-enum-told : tie.Need-enum-told
-enum-told c = search needs
-
-enum-known-check : tie.Need-enum-known-check
-enum-known-check c = search needs
-
-number-requires : tie.Need-number-requires
-number-requires c κs = search needs
-
 returns : tie.Need-returns
 unfolding checkNumber verdict
 returns c = rw (c .enum-told .given .1)
@@ -23,4 +14,4 @@ unfolding checkNumber verdict
 returns-2 c = rw (c .before .before .check .given .1, ← c .number .ensures)
 
 pub of-check-spec : {M : Type 1} → statement M
-of-check-spec = tie.close (tie.spec enum-told enum-known-check number-requires returns returns-2)
+of-check-spec = tie.close (tie.spec (λ c. search needs) (λ c. search needs) (λ c κs. search needs) returns returns-2)

@@ -6,18 +6,6 @@ use Rattle.rulvimba.specs.Surfaces.{surfaceResult, surfaceRecord}
 use Rattle.rulvimba.proofs.surfaces.of_made.Statement.{statement}
 use Rattle.rulvimba.proofs.surfaces.of_made.Tie as tie
 
-enum-known-answer : tie.Need-enum-known-answer
-enum-known-answer c = search needs
-
-number-requires : tie.Need-number-requires
-number-requires c κs = search needs
-
-enum-known-answer-2 : tie.Need-enum-known-answer-2
-enum-known-answer-2 c = search needs
-
-kind-number-requires : tie.Need-kind-number-requires
-kind-number-requires c κs = search needs
-
 returns : tie.Need-returns
 unfolding surfaceResult surfaceAnswer surfaceRecord ofBits
 returns c = rw (c .before .before .answer .given .1, ← c .number .ensures)
@@ -27,12 +15,4 @@ unfolding surfaceResult surfaceAnswer surfaceRecord ofBits
 returns-2 c = rw (c .before .before .before .answer2 .given .1, ← c .kind-number .ensures)
 
 pub of-made-spec : {M : Type 1} → statement M
-of-made-spec =
-    tie.close
-    (tie.spec
-    enum-known-answer
-    number-requires
-    enum-known-answer-2
-    kind-number-requires
-    returns
-    returns-2)
+of-made-spec = tie.close (tie.spec (λ c. search needs) (λ c κs. search needs) (λ c. search needs) (λ c κs. search needs) returns returns-2)

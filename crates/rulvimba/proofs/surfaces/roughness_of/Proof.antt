@@ -9,12 +9,9 @@ returns : tie.Need-returns
 unfolding roughnessOf
 returns c = rw (le-leb _ _ (c .if1 .taken))
 
-nan-requires : tie.Need-nan-requires
-nan-requires c κs = search needs
-
 returns-2 : tie.Need-returns-2
 unfolding roughnessOf
 returns-2 c = rw (lt-leb _ _ (c .before .if1 .left), ← c .nan .ensures)
 
 pub roughness-of-spec : {M : Type 1} → statement M
-roughness-of-spec = tie.close (tie.spec returns nan-requires returns-2)
+roughness-of-spec = tie.close (tie.spec returns (λ c κs. search needs) returns-2)

@@ -3,18 +3,8 @@ use borrow.Author.Needs.{needs}
 use Rattle.rulvimba.proofs.terms.rulvimba_density.Statement.{statement}
 use Rattle.rulvimba.proofs.terms.rulvimba_density.Tie as tie
 
-of-record-requires : tie.Need-of-record-requires
-of-record-requires c κs = search needs
-
-pdf-requires : tie.Need-pdf-requires
-pdf-requires c κs = search needs
-
-of-float-requires : tie.Need-of-float-requires
-of-float-requires c κs = search needs
-
 returns : tie.Need-returns
 returns c = rw (← c .before .before .of-record .ensures, ← c .before .pdf .ensures, ← c .of-float .ensures)
 
 pub rulvimba-density-spec : {M : Type 1} → statement M
-rulvimba-density-spec =
-    tie.close (tie.spec of-record-requires pdf-requires of-float-requires returns)
+rulvimba-density-spec = tie.close (tie.spec (λ c κs. search needs) (λ c κs. search needs) (λ c κs. search needs) returns)

@@ -3,17 +3,8 @@ use borrow.Author.Needs.{needs}
 use Rattle.rulvimba.proofs.terms.rulvimba_g1.Statement.{statement}
 use Rattle.rulvimba.proofs.terms.rulvimba_g1.Tie as tie
 
-of-record-requires : tie.Need-of-record-requires
-of-record-requires c κs = search needs
-
-g1-requires : tie.Need-g1-requires
-g1-requires c κs = search needs
-
-of-float-requires : tie.Need-of-float-requires
-of-float-requires c κs = search needs
-
 returns : tie.Need-returns
 returns c = rw (← c .before .before .of-record .ensures, ← c .before .g1 .ensures, ← c .of-float .ensures)
 
 pub rulvimba-g1-spec : {M : Type 1} → statement M
-rulvimba-g1-spec = tie.close (tie.spec of-record-requires g1-requires of-float-requires returns)
+rulvimba-g1-spec = tie.close (tie.spec (λ c κs. search needs) (λ c κs. search needs) (λ c κs. search needs) returns)

@@ -3,14 +3,8 @@ use borrow.Author.Needs.{needs}
 use Rattle.rulvimba.proofs.terms.rulvimba_refract.Statement.{statement}
 use Rattle.rulvimba.proofs.terms.rulvimba_refract.Tie as tie
 
-refract-requires : tie.Need-refract-requires
-refract-requires c κs = search needs
-
-of-refract-requires : tie.Need-of-refract-requires
-of-refract-requires c κs = search needs
-
 returns : tie.Need-returns
 returns c = rw (← c .before .refract .ensures, ← c .of-refract .ensures)
 
 pub rulvimba-refract-spec : {M : Type 1} → statement M
-rulvimba-refract-spec = tie.close (tie.spec refract-requires of-refract-requires returns)
+rulvimba-refract-spec = tie.close (tie.spec (λ c κs. search needs) (λ c κs. search needs) returns)

@@ -9,12 +9,9 @@ returns : tie.Need-returns
 unfolding cosHalf ofBits
 returns c = rw (c .if1 .taken)
 
-sqrt-or-zero-requires : tie.Need-sqrt-or-zero-requires
-sqrt-or-zero-requires c κs = search needs
-
 returns-2 : tie.Need-returns-2
 unfolding cosHalf ofBits
 returns-2 c = rw (c .before .before .if1 .left, ← c .sqrt-or-zero .ensures)
 
 pub cos-half-spec : {M : Type 1} → statement M
-cos-half-spec = tie.close (tie.spec returns sqrt-or-zero-requires returns-2)
+cos-half-spec = tie.close (tie.spec returns (λ c κs. search needs) returns-2)

@@ -4,30 +4,9 @@ use Rattle.numbers.specs.Complex.{div}
 use Rattle.numbers.proofs.complex.Complex.div.Statement.{statement}
 use Rattle.numbers.proofs.complex.Complex.div.Tie as tie
 
-is-zero-requires : tie.Need-is-zero-requires
-is-zero-requires c κs = search needs
-
-nan-requires : tie.Need-nan-requires
-nan-requires c κs = search needs
-
-nan-requires-2 : tie.Need-nan-requires-2
-nan-requires-2 c κs = search needs
-
 returns : tie.Need-returns
 unfolding div
 returns c = rw (← c .before .before .before .is-zero .ensures, c .before .before .if1 .taken, c .before .nan .ensures, c .nan2 .ensures)
-
-co-requires : tie.Need-co-requires
-co-requires c κs = search needs
-
-mul-requires : tie.Need-mul-requires
-mul-requires c κs = search needs
-
-norm-sqr-requires : tie.Need-norm-sqr-requires
-norm-sqr-requires c κs = search needs
-
-div-float-requires : tie.Need-div-float-requires
-div-float-requires c κs = search needs
 
 returns-2 : tie.Need-returns-2
 unfolding div
@@ -36,13 +15,5 @@ returns-2 c = rw (← c .before .before .before .before .before .is-zero .ensure
 pub div-spec : {M : Type 1} → statement M
 div-spec =
     tie.close
-    (tie.spec
-    is-zero-requires
-    nan-requires
-    nan-requires-2
-    returns
-    co-requires
-    mul-requires
-    norm-sqr-requires
-    div-float-requires
-    returns-2)
+    (tie.spec (λ c κs. search needs) (λ c κs. search needs) (λ c κs. search needs) returns (λ c κs. search needs) (λ c κs. search needs)
+    (λ c κs. search needs) (λ c κs. search needs) returns-2)

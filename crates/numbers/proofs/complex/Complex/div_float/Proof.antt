@@ -5,12 +5,6 @@ use Rattle.numbers.specs.Complex.{divFloat}
 use Rattle.numbers.proofs.complex.Complex.div_float.Statement.{statement}
 use Rattle.numbers.proofs.complex.Complex.div_float.Tie as tie
 
-nan-requires : tie.Need-nan-requires
-nan-requires c κs = search needs
-
-nan-requires-2 : tie.Need-nan-requires-2
-nan-requires-2 c κs = search needs
-
 returns : tie.Need-returns
 unfolding divFloat ofBits
 returns c = rw (c .before .before .if1 .taken, c .before .nan .ensures, c .nan2 .ensures)
@@ -20,4 +14,4 @@ unfolding divFloat ofBits
 returns-2 c = rw (c .before .before .if1 .left)
 
 pub div-float-spec : {M : Type 1} → statement M
-div-float-spec = tie.close (tie.spec nan-requires nan-requires-2 returns returns-2)
+div-float-spec = tie.close (tie.spec (λ c κs. search needs) (λ c κs. search needs) returns returns-2)

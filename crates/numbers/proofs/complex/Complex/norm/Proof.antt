@@ -4,15 +4,9 @@ use Rattle.numbers.specs.Complex.{norm}
 use Rattle.numbers.proofs.complex.Complex.norm.Statement.{statement}
 use Rattle.numbers.proofs.complex.Complex.norm.Tie as tie
 
-norm-sqr-requires : tie.Need-norm-sqr-requires
-norm-sqr-requires c κs = search needs
-
-sqrt-requires : tie.Need-sqrt-requires
-sqrt-requires c κs = search needs
-
 returns : tie.Need-returns
 unfolding norm
 returns c = rw (← c .before .norm-sqr .ensures, ← c .sqrt .ensures)
 
 pub norm-spec : {M : Type 1} → statement M
-norm-spec = tie.close (tie.spec norm-sqr-requires sqrt-requires returns)
+norm-spec = tie.close (tie.spec (λ c κs. search needs) (λ c κs. search needs) returns)

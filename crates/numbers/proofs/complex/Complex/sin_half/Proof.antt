@@ -9,12 +9,6 @@ returns : tie.Need-returns
 unfolding sinHalf ofBits
 returns c = rw (c .if1 .taken)
 
-sqrt-or-zero-requires : tie.Need-sqrt-or-zero-requires
-sqrt-or-zero-requires c κs = search needs
-
-is-sign-negative-requires : tie.Need-is-sign-negative-requires
-is-sign-negative-requires c κs = search needs
-
 returns-2 : tie.Need-returns-2
 unfolding sinHalf ofBits
 returns-2 c = rw (c .before .before .before .before .if1 .left, ← c .before .before .sqrt-or-zero .ensures, ← c .before .is-sign-negative .ensures, c .if2 .taken)
@@ -24,6 +18,4 @@ unfolding sinHalf ofBits
 returns-3 c = rw (c .before .before .before .before .if1 .left, ← c .before .before .sqrt-or-zero .ensures, ← c .before .is-sign-negative .ensures, c .if2 .left)
 
 pub sin-half-spec : {M : Type 1} → statement M
-sin-half-spec =
-    tie.close
-    (tie.spec returns sqrt-or-zero-requires is-sign-negative-requires returns-2 returns-3)
+sin-half-spec = tie.close (tie.spec returns (λ c κs. search needs) (λ c κs. search needs) returns-2 returns-3)

@@ -9,30 +9,9 @@ returns : tie.Need-returns
 unfolding sampleOne sampleOneAt upperPoint upperLambda upperWeight ofBits
 returns c = rw (c .if1 .taken)
 
-ceiling-requires : tie.Need-ceiling-requires
-ceiling-requires c κs = search needs
-
-nearest-u64-to-f64-requires : tie.Need-nearest-u64-to-f64-requires
-nearest-u64-to-f64-requires c κs = search needs
-
-entry-requires : tie.Need-entry-requires
-entry-requires c κs = search needs
-
 returns-2 : tie.Need-returns-2
 unfolding sampleOne sampleOneAt upperPoint upperLambda upperWeight ofBits
 returns-2 c = rw (c .before .before .before .before .if1 .left, ← c .before .before .before .ceiling .ensures, ← c .before .before .nearest-u64-to-f64 .ensures, c .before .if2 .taken, ← c .entry .ensures)
-
-before-requires : tie.Need-before-requires
-before-requires c κs = search needs
-
-entry-requires-2 : tie.Need-entry-requires-2
-entry-requires-2 c κs = search needs
-
-entry-requires-3 : tie.Need-entry-requires-3
-entry-requires-3 c κs = search needs
-
-interpolate-requires : tie.Need-interpolate-requires
-interpolate-requires c κs = search needs
 
 returns-3 : tie.Need-returns-3
 unfolding sampleOne sampleOneAt upperPoint upperLambda upperWeight ofBits
@@ -41,14 +20,5 @@ returns-3 c = rw (c .before .before .before .before .before .before .before .if1
 pub sample-one-spec : {M : Type 1} → statement M
 sample-one-spec =
     tie.close
-    (tie.spec
-    returns
-    ceiling-requires
-    nearest-u64-to-f64-requires
-    entry-requires
-    returns-2
-    before-requires
-    entry-requires-2
-    entry-requires-3
-    interpolate-requires
-    returns-3)
+    (tie.spec returns (λ c κs. search needs) (λ c κs. search needs) (λ c κs. search needs) returns-2 (λ c κs. search needs) (λ c κs. search needs)
+    (λ c κs. search needs) (λ c κs. search needs) returns-3)

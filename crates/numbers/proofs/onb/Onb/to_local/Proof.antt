@@ -4,18 +4,9 @@ use Rattle.numbers.specs.Onb.{toLocal}
 use Rattle.numbers.proofs.onb.Onb.to_local.Statement.{statement}
 use Rattle.numbers.proofs.onb.Onb.to_local.Tie as tie
 
-dot-requires : tie.Need-dot-requires
-dot-requires c κs = search needs
-
-dot-requires-2 : tie.Need-dot-requires-2
-dot-requires-2 c κs = search needs
-
-dot-requires-3 : tie.Need-dot-requires-3
-dot-requires-3 c κs = search needs
-
 returns : tie.Need-returns
 unfolding toLocal
 returns c = rw (← c .before .before .dot .ensures, ← c .before .dot2 .ensures, ← c .dot3 .ensures)
 
 pub to-local-spec : {M : Type 1} → statement M
-to-local-spec = tie.close (tie.spec dot-requires dot-requires-2 dot-requires-3 returns)
+to-local-spec = tie.close (tie.spec (λ c κs. search needs) (λ c κs. search needs) (λ c κs. search needs) returns)

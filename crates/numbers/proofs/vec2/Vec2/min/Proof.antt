@@ -4,15 +4,9 @@ use Rattle.numbers.specs.Vec2.{min}
 use Rattle.numbers.proofs.vec2.Vec2.min.Statement.{statement}
 use Rattle.numbers.proofs.vec2.Vec2.min.Tie as tie
 
-min-requires : tie.Need-min-requires
-min-requires c κs = search needs
-
-min-requires-2 : tie.Need-min-requires-2
-min-requires-2 c κs = search needs
-
 returns : tie.Need-returns
 unfolding min
 returns c = rw (← c .before .min .ensures, ← c .min2 .ensures)
 
 pub min-spec : {M : Type 1} → statement M
-min-spec = tie.close (tie.spec min-requires min-requires-2 returns)
+min-spec = tie.close (tie.spec (λ c κs. search needs) (λ c κs. search needs) returns)

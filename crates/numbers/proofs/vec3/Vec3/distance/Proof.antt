@@ -5,15 +5,9 @@ use Rattle.numbers.specs.Vec3.{distance}
 use Rattle.numbers.proofs.vec3.Vec3.distance.Statement.{statement}
 use Rattle.numbers.proofs.vec3.Vec3.distance.Tie as tie
 
-distance-squared-requires : tie.Need-distance-squared-requires
-distance-squared-requires c κs = search needs
-
-sqrt-or-zero-requires : tie.Need-sqrt-or-zero-requires
-sqrt-or-zero-requires c κs = search needs
-
 returns : tie.Need-returns
 unfolding distance ofBits
 returns c = rw (← c .before .distance-squared .ensures, ← c .sqrt-or-zero .ensures)
 
 pub distance-spec : {M : Type 1} → statement M
-distance-spec = tie.close (tie.spec distance-squared-requires sqrt-or-zero-requires returns)
+distance-spec = tie.close (tie.spec (λ c κs. search needs) (λ c κs. search needs) returns)

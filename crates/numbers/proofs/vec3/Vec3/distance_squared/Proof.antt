@@ -4,15 +4,9 @@ use Rattle.numbers.specs.Vec3.{distanceSquared}
 use Rattle.numbers.proofs.vec3.Vec3.distance_squared.Statement.{statement}
 use Rattle.numbers.proofs.vec3.Vec3.distance_squared.Tie as tie
 
-sub-requires : tie.Need-sub-requires
-sub-requires c κs = search needs
-
-length-squared-requires : tie.Need-length-squared-requires
-length-squared-requires c κs = search needs
-
 returns : tie.Need-returns
 unfolding distanceSquared
 returns c = rw (← c .before .sub .ensures, ← c .length-squared .ensures)
 
 pub distance-squared-spec : {M : Type 1} → statement M
-distance-squared-spec = tie.close (tie.spec sub-requires length-squared-requires returns)
+distance-squared-spec = tie.close (tie.spec (λ c κs. search needs) (λ c κs. search needs) returns)

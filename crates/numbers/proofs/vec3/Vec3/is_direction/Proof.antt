@@ -6,15 +6,9 @@ use Rattle.numbers.specs.Vec3.{isDirection}
 use Rattle.numbers.proofs.vec3.Vec3.is_direction.Statement.{statement}
 use Rattle.numbers.proofs.vec3.Vec3.is_direction.Tie as tie
 
-length-squared-requires : tie.Need-length-squared-requires
-length-squared-requires c κs = search needs
-
-within-requires : tie.Need-within-requires
-within-requires c κs = search needs
-
 returns : tie.Need-returns
 unfolding isDirection decimal ofBits
 returns c = rw (← c .before .length-squared .ensures, ← c .within .ensures)
 
 pub is-direction-spec : {M : Type 1} → statement M
-is-direction-spec = tie.close (tie.spec length-squared-requires within-requires returns)
+is-direction-spec = tie.close (tie.spec (λ c κs. search needs) (λ c κs. search needs) returns)

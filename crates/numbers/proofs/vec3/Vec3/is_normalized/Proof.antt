@@ -6,15 +6,9 @@ use Rattle.numbers.specs.Vec3.{isNormalized}
 use Rattle.numbers.proofs.vec3.Vec3.is_normalized.Statement.{statement}
 use Rattle.numbers.proofs.vec3.Vec3.is_normalized.Tie as tie
 
-length-squared-requires : tie.Need-length-squared-requires
-length-squared-requires c κs = search needs
-
-abs-requires : tie.Need-abs-requires
-abs-requires c κs = search needs
-
 returns : tie.Need-returns
 unfolding isNormalized epsilon decimal ofBits
 returns c = rw (← c .before .length-squared .ensures, ← c .abs .ensures)
 
 pub is-normalized-spec : {M : Type 1} → statement M
-is-normalized-spec = tie.close (tie.spec length-squared-requires abs-requires returns)
+is-normalized-spec = tie.close (tie.spec (λ c κs. search needs) (λ c κs. search needs) returns)

@@ -5,15 +5,9 @@ use Rattle.numbers.specs.Vec3.{length}
 use Rattle.numbers.proofs.vec3.Vec3.length.Statement.{statement}
 use Rattle.numbers.proofs.vec3.Vec3.length.Tie as tie
 
-length-squared-requires : tie.Need-length-squared-requires
-length-squared-requires c κs = search needs
-
-sqrt-or-zero-requires : tie.Need-sqrt-or-zero-requires
-sqrt-or-zero-requires c κs = search needs
-
 returns : tie.Need-returns
 unfolding length ofBits
 returns c = rw (← c .before .length-squared .ensures, ← c .sqrt-or-zero .ensures)
 
 pub length-spec : {M : Type 1} → statement M
-length-spec = tie.close (tie.spec length-squared-requires sqrt-or-zero-requires returns)
+length-spec = tie.close (tie.spec (λ c κs. search needs) (λ c κs. search needs) returns)

@@ -4,15 +4,9 @@ use Rattle.numbers.specs.Vec3.{maxElement}
 use Rattle.numbers.proofs.vec3.Vec3.max_element.Statement.{statement}
 use Rattle.numbers.proofs.vec3.Vec3.max_element.Tie as tie
 
-max-requires : tie.Need-max-requires
-max-requires c κs = search needs
-
-max-requires-2 : tie.Need-max-requires-2
-max-requires-2 c κs = search needs
-
 returns : tie.Need-returns
 unfolding maxElement
 returns c = rw (← c .before .max .ensures, ← c .max2 .ensures)
 
 pub max-element-spec : {M : Type 1} → statement M
-max-element-spec = tie.close (tie.spec max-requires max-requires-2 returns)
+max-element-spec = tie.close (tie.spec (λ c κs. search needs) (λ c κs. search needs) returns)

@@ -4,15 +4,9 @@ use Rattle.numbers.specs.Vec3.{minElement}
 use Rattle.numbers.proofs.vec3.Vec3.min_element.Statement.{statement}
 use Rattle.numbers.proofs.vec3.Vec3.min_element.Tie as tie
 
-min-requires : tie.Need-min-requires
-min-requires c κs = search needs
-
-min-requires-2 : tie.Need-min-requires-2
-min-requires-2 c κs = search needs
-
 returns : tie.Need-returns
 unfolding minElement
 returns c = rw (← c .before .min .ensures, ← c .min2 .ensures)
 
 pub min-element-spec : {M : Type 1} → statement M
-min-element-spec = tie.close (tie.spec min-requires min-requires-2 returns)
+min-element-spec = tie.close (tie.spec (λ c κs. search needs) (λ c κs. search needs) returns)

@@ -4,15 +4,9 @@ use Rattle.numbers.specs.Vec3.{normalize}
 use Rattle.numbers.proofs.vec3.Vec3.normalize.Statement.{statement}
 use Rattle.numbers.proofs.vec3.Vec3.normalize.Tie as tie
 
-length-requires : tie.Need-length-requires
-length-requires c κs = search needs
-
-div-float-requires : tie.Need-div-float-requires
-div-float-requires c κs = search needs
-
 returns : tie.Need-returns
 unfolding normalize
 returns c = rw (← c .before .length .ensures, ← c .div-float .ensures)
 
 pub normalize-spec : {M : Type 1} → statement M
-normalize-spec = tie.close (tie.spec length-requires div-float-requires returns)
+normalize-spec = tie.close (tie.spec (λ c κs. search needs) (λ c κs. search needs) returns)

@@ -4,23 +4,9 @@ use Rattle.numbers.specs.Vec3.{projectOnto}
 use Rattle.numbers.proofs.vec3.Vec3.project_onto.Statement.{statement}
 use Rattle.numbers.proofs.vec3.Vec3.project_onto.Tie as tie
 
-dot-requires : tie.Need-dot-requires
-dot-requires c κs = search needs
-
-mul-float-requires : tie.Need-mul-float-requires
-mul-float-requires c κs = search needs
-
-length-squared-requires : tie.Need-length-squared-requires
-length-squared-requires c κs = search needs
-
-div-float-requires : tie.Need-div-float-requires
-div-float-requires c κs = search needs
-
 returns : tie.Need-returns
 unfolding projectOnto
 returns c = rw (← c .before .before .before .dot .ensures, ← c .before .before .mul-float .ensures, ← c .before .length-squared .ensures, ← c .div-float .ensures)
 
 pub project-onto-spec : {M : Type 1} → statement M
-project-onto-spec =
-    tie.close
-    (tie.spec dot-requires mul-float-requires length-squared-requires div-float-requires returns)
+project-onto-spec = tie.close (tie.spec (λ c κs. search needs) (λ c κs. search needs) (λ c κs. search needs) (λ c κs. search needs) returns)

@@ -5,19 +5,13 @@ use borrow.Author.Needs.{needs}
 use Rattle.optics.proofs.bxdf.conductor.normal.Statement.{statement}
 use Rattle.optics.proofs.bxdf.conductor.normal.Tie as tie
 
-is-delta-requires : tie.Need-is-delta-requires
-is-delta-requires c κs = search needs
-
 returns : tie.Need-returns
 unfolding conductorNormal ofBits
 returns c = rw (← c .before .is-delta .ensures, c .if1 .taken)
-
-sample-normal-requires : tie.Need-sample-normal-requires
-sample-normal-requires c κs = search needs
 
 returns-2 : tie.Need-returns-2
 unfolding conductorNormal ofBits
 returns-2 c = rw (← c .before .before .is-delta .ensures, c .before .if1 .left, ← c .sample-normal .ensures)
 
 pub normal-spec : {M : Type 1} → statement M
-normal-spec = tie.close (tie.spec is-delta-requires returns sample-normal-requires returns-2)
+normal-spec = tie.close (tie.spec (λ c κs. search needs) returns (λ c κs. search needs) returns-2)

@@ -4,15 +4,9 @@ use borrow.Author.Needs.{needs}
 use Rattle.optics.proofs.bxdf.conductor.sample.Statement.{statement}
 use Rattle.optics.proofs.bxdf.conductor.sample.Tie as tie
 
-normal-requires : tie.Need-normal-requires
-normal-requires c κs = search needs
-
-sample-from-requires : tie.Need-sample-from-requires
-sample-from-requires c κs = search needs
-
 returns : tie.Need-returns
 unfolding conductorSample
 returns c = rw (← c .before .normal .ensures, ← c .sample-from .ensures)
 
 pub sample-spec : {M : Type 1} → statement M
-sample-spec = tie.close (tie.spec normal-requires sample-from-requires returns)
+sample-spec = tie.close (tie.spec (λ c κs. search needs) (λ c κs. search needs) returns)

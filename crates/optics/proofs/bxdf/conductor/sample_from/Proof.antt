@@ -6,21 +6,9 @@ use borrow.Author.Needs.{needs}
 use Rattle.optics.proofs.bxdf.conductor.sample_from.Statement.{statement}
 use Rattle.optics.proofs.bxdf.conductor.sample_from.Tie as tie
 
-is-delta-requires : tie.Need-is-delta-requires
-is-delta-requires c κs = search needs
-
 returns : tie.Need-returns
 unfolding conductorFrom branch reflected sampled ofBits
 returns c = rw (← c .before .before .before .is-delta .ensures, c .before .before .if1 .taken)
-
-reflect-requires : tie.Need-reflect-requires
-reflect-requires c κs = search needs
-
-enum-known-wi : tie.Need-enum-known-wi
-enum-known-wi c = search needs
-
-enum-told : tie.Need-enum-told
-enum-told c = search needs
 
 returns-2 : tie.Need-returns-2
 unfolding conductorFrom branch reflected sampled ofBits
@@ -45,11 +33,4 @@ returns-3 c =
 pub sample-from-spec : {M : Type 1} → statement M
 sample-from-spec =
     tie.close
-    (tie.spec
-    is-delta-requires
-    returns
-    reflect-requires
-    enum-known-wi
-    enum-told
-    returns-2
-    returns-3)
+    (tie.spec (λ c κs. search needs) returns (λ c κs. search needs) (λ c. search needs) (λ c. search needs) returns-2 returns-3)

@@ -5,24 +5,9 @@ use borrow.Author.Needs.{needs}
 use Rattle.optics.proofs.bxdf.dielectric.half.Statement.{statement}
 use Rattle.optics.proofs.bxdf.dielectric.half.Tie as tie
 
-on-z-side-requires : tie.Need-on-z-side-requires
-on-z-side-requires c κs = search needs
-
 returns : tie.Need-returns
 unfolding dielectricHalf ofBits
 returns c = rw (c .before .if1 .taken, ← c .on-z-side .ensures)
-
-mul-float-requires : tie.Need-mul-float-requires
-mul-float-requires c κs = search needs
-
-add-requires : tie.Need-add-requires
-add-requires c κs = search needs
-
-normalize-requires : tie.Need-normalize-requires
-normalize-requires c κs = search needs
-
-on-z-side-requires-2 : tie.Need-on-z-side-requires-2
-on-z-side-requires-2 c κs = search needs
 
 returns-2 : tie.Need-returns-2
 unfolding dielectricHalf ofBits
@@ -38,11 +23,4 @@ returns-2 c =
 pub half-spec : {M : Type 1} → statement M
 half-spec =
     tie.close
-    (tie.spec
-    on-z-side-requires
-    returns
-    mul-float-requires
-    add-requires
-    normalize-requires
-    on-z-side-requires-2
-    returns-2)
+    (tie.spec (λ c κs. search needs) returns (λ c κs. search needs) (λ c κs. search needs) (λ c κs. search needs) (λ c κs. search needs) returns-2)

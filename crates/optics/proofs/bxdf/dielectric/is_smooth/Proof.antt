@@ -9,12 +9,9 @@ returns : tie.Need-returns
 unfolding isSmooth ofBits
 returns c = rw (c .if1 .taken)
 
-is-delta-requires : tie.Need-is-delta-requires
-is-delta-requires c κs = search needs
-
 returns-2 : tie.Need-returns-2
 unfolding isSmooth ofBits
 returns-2 c = rw (c .before .if1 .left, ← c .is-delta .ensures)
 
 pub is-smooth-spec : {M : Type 1} → statement M
-is-smooth-spec = tie.close (tie.spec returns is-delta-requires returns-2)
+is-smooth-spec = tie.close (tie.spec returns (λ c κs. search needs) returns-2)

@@ -5,19 +5,13 @@ use borrow.Author.Needs.{needs}
 use Rattle.optics.proofs.bxdf.dielectric.normal.Statement.{statement}
 use Rattle.optics.proofs.bxdf.dielectric.normal.Tie as tie
 
-is-smooth-requires : tie.Need-is-smooth-requires
-is-smooth-requires c κs = search needs
-
 returns : tie.Need-returns
 unfolding dielectricNormal ofBits
 returns c = rw (← c .before .is-smooth .ensures, c .if1 .taken)
-
-sample-normal-requires : tie.Need-sample-normal-requires
-sample-normal-requires c κs = search needs
 
 returns-2 : tie.Need-returns-2
 unfolding dielectricNormal ofBits
 returns-2 c = rw (← c .before .before .is-smooth .ensures, c .before .if1 .left, ← c .sample-normal .ensures)
 
 pub normal-spec : {M : Type 1} → statement M
-normal-spec = tie.close (tie.spec is-smooth-requires returns sample-normal-requires returns-2)
+normal-spec = tie.close (tie.spec (λ c κs. search needs) returns (λ c κs. search needs) returns-2)

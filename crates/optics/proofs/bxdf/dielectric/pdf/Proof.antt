@@ -5,17 +5,8 @@ use borrow.Author.Needs.{needs}
 use Rattle.optics.proofs.bxdf.dielectric.pdf.Statement.{statement}
 use Rattle.optics.proofs.bxdf.dielectric.pdf.Tie as tie
 
-is-smooth-requires : tie.Need-is-smooth-requires
-is-smooth-requires c κs = search needs
-
-lambda-unless-requires : tie.Need-lambda-unless-requires
-lambda-unless-requires c κs = search needs
-
-pdf-with-requires : tie.Need-pdf-with-requires
-pdf-with-requires c κs = search needs
-
 returns : tie.Need-returns
 returns c = rw (← glass-density _ f0 _ _ _ _ _, ← c .before .before .is-smooth .ensures, ← c .before .lambda-unless .ensures, ← c .pdf-with .ensures)
 
 pub pdf-spec : {M : Type 1} → statement M
-pdf-spec = tie.close (tie.spec is-smooth-requires lambda-unless-requires pdf-with-requires returns)
+pdf-spec = tie.close (tie.spec (λ c κs. search needs) (λ c κs. search needs) (λ c κs. search needs) returns)

@@ -7,15 +7,6 @@ use borrow.Author.Needs.{needs}
 use Rattle.optics.proofs.bxdf.dielectric.pdf_at.Statement.{statement}
 use Rattle.optics.proofs.bxdf.dielectric.pdf_at.Tie as tie
 
-dot-requires : tie.Need-dot-requires
-dot-requires c κs = search needs
-
-dot-requires-2 : tie.Need-dot-requires-2
-dot-requires-2 c κs = search needs
-
-is-discarded-requires : tie.Need-is-discarded-requires
-is-discarded-requires c κs = search needs
-
 returns : tie.Need-returns
 unfolding dielectricPdfFrom fAt ofBits
 returns c =
@@ -25,12 +16,6 @@ returns c =
       ← c .before .is-discarded .ensures,
       c .if1 .taken,
     )
-
-fresnel-requires : tie.Need-fresnel-requires
-fresnel-requires c κs = search needs
-
-reflected-pdf-requires : tie.Need-reflected-pdf-requires
-reflected-pdf-requires c κs = search needs
 
 returns-2 : tie.Need-returns-2
 unfolding dielectricPdfFrom fAt ofBits
@@ -44,9 +29,6 @@ returns-2 c =
       c .before .if2 .taken,
       ← c .reflected-pdf .ensures,
     )
-
-passed-pdf-requires : tie.Need-passed-pdf-requires
-passed-pdf-requires c κs = search needs
 
 returns-3 : tie.Need-returns-3
 unfolding dielectricPdfFrom fAt ofBits
@@ -64,13 +46,5 @@ returns-3 c =
 pub pdf-at-spec : {M : Type 1} → statement M
 pdf-at-spec =
     tie.close
-    (tie.spec
-    dot-requires
-    dot-requires-2
-    is-discarded-requires
-    returns
-    fresnel-requires
-    reflected-pdf-requires
-    returns-2
-    passed-pdf-requires
-    returns-3)
+    (tie.spec (λ c κs. search needs) (λ c κs. search needs) (λ c κs. search needs) returns (λ c κs. search needs) (λ c κs. search needs) returns-2
+    (λ c κs. search needs) returns-3)

@@ -7,21 +7,9 @@ use borrow.Author.Needs.{needs}
 use Rattle.optics.proofs.bxdf.dielectric.reflected_pdf.Statement.{statement}
 use Rattle.optics.proofs.bxdf.dielectric.reflected_pdf.Tie as tie
 
-is-smooth-requires : tie.Need-is-smooth-requires
-is-smooth-requires c κs = search needs
-
-at-z-requires : tie.Need-at-z-requires
-at-z-requires c κs = search needs
-
 returns : tie.Need-returns
 unfolding reflectedPdf mirroredPdf rest ofBits
 returns c = rw (← c .before .before .is-smooth .ensures, c .before .if1 .taken, ← c .at-z .ensures)
-
-sample-normal-pdf-at-requires : tie.Need-sample-normal-pdf-at-requires
-sample-normal-pdf-at-requires c κs = search needs
-
-abs-requires : tie.Need-abs-requires
-abs-requires c κs = search needs
 
 returns-2 : tie.Need-returns-2
 unfolding reflectedPdf mirroredPdf rest ofBits
@@ -37,10 +25,4 @@ returns-2 c =
 pub reflected-pdf-spec : {M : Type 1} → statement M
 reflected-pdf-spec =
     tie.close
-    (tie.spec
-    is-smooth-requires
-    at-z-requires
-    returns
-    sample-normal-pdf-at-requires
-    abs-requires
-    returns-2)
+    (tie.spec (λ c κs. search needs) (λ c κs. search needs) returns (λ c κs. search needs) (λ c κs. search needs) returns-2)

@@ -6,15 +6,6 @@ use borrow.Author.Needs.{needs}
 use Rattle.optics.proofs.bxdf.dielectric.sample_from.Statement.{statement}
 use Rattle.optics.proofs.bxdf.dielectric.sample_from.Tie as tie
 
-reflect-requires : tie.Need-reflect-requires
-reflect-requires c κs = search needs
-
-enum-known-wi : tie.Need-enum-known-wi
-enum-known-wi c = search needs
-
-enum-told : tie.Need-enum-told
-enum-told c = search needs
-
 returns : tie.Need-returns
 unfolding dielectricFrom reflects rest branch reflected refracted sampled ofBits
 returns c =
@@ -32,18 +23,6 @@ returns-2 c =
       ← c .before .before .reflect .ensures,
       c .enum-told .given .1,
     )
-
-refract-requires : tie.Need-refract-requires
-refract-requires c κs = search needs
-
-enum-known-wi-2 : tie.Need-enum-known-wi-2
-enum-known-wi-2 c = search needs
-
-enum-told-2 : tie.Need-enum-told-2
-enum-told-2 c = search needs
-
-enum-told-3 : tie.Need-enum-told-3
-enum-told-3 c = search needs
 
 returns-3 : tie.Need-returns-3
 unfolding dielectricFrom reflects rest branch reflected refracted sampled ofBits
@@ -75,16 +54,5 @@ returns-5 c =
 pub sample-from-spec : {M : Type 1} → statement M
 sample-from-spec =
     tie.close
-    (tie.spec
-    reflect-requires
-    enum-known-wi
-    enum-told
-    returns
-    returns-2
-    refract-requires
-    enum-known-wi-2
-    enum-told-2
-    enum-told-3
-    returns-3
-    returns-4
-    returns-5)
+    (tie.spec (λ c κs. search needs) (λ c. search needs) (λ c. search needs) returns returns-2 (λ c κs. search needs) (λ c. search needs)
+    (λ c. search needs) (λ c. search needs) returns-3 returns-4 returns-5)

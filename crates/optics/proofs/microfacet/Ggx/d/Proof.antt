@@ -8,12 +8,6 @@ use Rattle.optics.proofs.SharedTerms.{cos-phi, sin-phi}
 use Rattle.optics.proofs.microfacet.Ggx.d.Statement.{statement}
 use Rattle.optics.proofs.microfacet.Ggx.d.Tie as tie
 
-max-requires : tie.Need-max-requires
-max-requires c κs = search needs
-
-is-infinite-requires : tie.Need-is-infinite-requires
-is-infinite-requires c κs = search needs
-
 returns : tie.Need-returns
 unfolding d slopeSquared cos4Theta tan2Theta sin2Theta cos2Theta sinTheta powi2 epsilon decimal ofBits
 returns c = rw (← c .before .before .max .ensures, ← c .before .is-infinite .ensures, c .if1 .taken)
@@ -27,15 +21,6 @@ returns-2 c =
       c .before .if1 .left,
       c .if2 .taken,
     )
-
-sqrt-requires : tie.Need-sqrt-requires
-sqrt-requires c κs = search needs
-
-azimuth-requires : tie.Need-azimuth-requires
-azimuth-requires c κs = search needs
-
-azimuth-requires-2 : tie.Need-azimuth-requires-2
-azimuth-requires-2 c κs = search needs
 
 returns-3 : tie.Need-returns-3
 unfolding d slopeSquared cos4Theta tan2Theta sin2Theta cos2Theta sinTheta powi2 epsilon decimal ofBits
@@ -55,12 +40,5 @@ returns-3 c =
 pub d-spec : {M : Type 1} → statement M
 d-spec =
     tie.close
-    (tie.spec
-    max-requires
-    is-infinite-requires
-    returns
-    returns-2
-    sqrt-requires
-    azimuth-requires
-    azimuth-requires-2
+    (tie.spec (λ c κs. search needs) (λ c κs. search needs) returns returns-2 (λ c κs. search needs) (λ c κs. search needs) (λ c κs. search needs)
     returns-3)

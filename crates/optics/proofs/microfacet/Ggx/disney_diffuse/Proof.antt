@@ -6,15 +6,9 @@ use borrow.Author.Needs.{needs}
 use Rattle.optics.proofs.microfacet.Ggx.disney_diffuse.Statement.{statement}
 use Rattle.optics.proofs.microfacet.Ggx.disney_diffuse.Tie as tie
 
-f-schlick-requires : tie.Need-f-schlick-requires
-f-schlick-requires c κs = search needs
-
-f-schlick-requires-2 : tie.Need-f-schlick-requires-2
-f-schlick-requires-2 c κs = search needs
-
 returns : tie.Need-returns
 unfolding disneyDiffuse fd90 energyFactor powi2 decimal ofBits
 returns c = rw (← c .before .f-schlick .ensures, ← c .f-schlick2 .ensures)
 
 pub disney-diffuse-spec : {M : Type 1} → statement M
-disney-diffuse-spec = tie.close (tie.spec f-schlick-requires f-schlick-requires-2 returns)
+disney-diffuse-spec = tie.close (tie.spec (λ c κs. search needs) (λ c κs. search needs) returns)

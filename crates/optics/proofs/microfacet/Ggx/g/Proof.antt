@@ -5,15 +5,6 @@ use borrow.Author.Needs.{needs}
 use Rattle.optics.proofs.microfacet.Ggx.g.Statement.{statement}
 use Rattle.optics.proofs.microfacet.Ggx.g.Tie as tie
 
-chi-pass-requires : tie.Need-chi-pass-requires
-chi-pass-requires c κs = search needs
-
-lambda-requires : tie.Need-lambda-requires
-lambda-requires c κs = search needs
-
-lambda-requires-2 : tie.Need-lambda-requires-2
-lambda-requires-2 c κs = search needs
-
 returns : tie.Need-returns
 unfolding g masked ofBits
 returns c =
@@ -29,4 +20,4 @@ unfolding g masked ofBits
 returns-2 c = rw (← c .before .chi-pass .ensures, c .if1 .left)
 
 pub g-spec : {M : Type 1} → statement M
-g-spec = tie.close (tie.spec chi-pass-requires lambda-requires lambda-requires-2 returns returns-2)
+g-spec = tie.close (tie.spec (λ c κs. search needs) (λ c κs. search needs) (λ c κs. search needs) returns returns-2)

@@ -5,12 +5,6 @@ use borrow.Author.Needs.{needs}
 use Rattle.optics.proofs.microfacet.Ggx.g1.Statement.{statement}
 use Rattle.optics.proofs.microfacet.Ggx.g1.Tie as tie
 
-chi-pass-requires : tie.Need-chi-pass-requires
-chi-pass-requires c κs = search needs
-
-lambda-requires : tie.Need-lambda-requires
-lambda-requires c κs = search needs
-
 returns : tie.Need-returns
 unfolding g1 masked ofBits
 returns c = rw (← c .before .before .chi-pass .ensures, c .before .if1 .taken, ← c .lambda .ensures)
@@ -20,4 +14,4 @@ unfolding g1 masked ofBits
 returns-2 c = rw (← c .before .chi-pass .ensures, c .if1 .left)
 
 pub g1-spec : {M : Type 1} → statement M
-g1-spec = tie.close (tie.spec chi-pass-requires lambda-requires returns returns-2)
+g1-spec = tie.close (tie.spec (λ c κs. search needs) (λ c κs. search needs) returns returns-2)

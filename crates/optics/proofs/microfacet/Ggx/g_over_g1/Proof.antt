@@ -4,17 +4,8 @@ use borrow.Author.Needs.{needs}
 use Rattle.optics.proofs.microfacet.Ggx.g_over_g1.Statement.{statement}
 use Rattle.optics.proofs.microfacet.Ggx.g_over_g1.Tie as tie
 
-lambda-requires : tie.Need-lambda-requires
-lambda-requires c κs = search needs
-
-dot-requires : tie.Need-dot-requires
-dot-requires c κs = search needs
-
-g-over-g1-at-requires : tie.Need-g-over-g1-at-requires
-g-over-g1-at-requires c κs = search needs
-
 returns : tie.Need-returns
 returns c = rw (← g-over-g1-at, ← c .before .before .lambda .ensures, ← c .before .dot .ensures, ← c .g-over-g1-at .ensures)
 
 pub g-over-g1-spec : {M : Type 1} → statement M
-g-over-g1-spec = tie.close (tie.spec lambda-requires dot-requires g-over-g1-at-requires returns)
+g-over-g1-spec = tie.close (tie.spec (λ c κs. search needs) (λ c κs. search needs) (λ c κs. search needs) returns)

@@ -5,9 +5,6 @@ use borrow.Author.Needs.{needs}
 use Rattle.optics.proofs.microfacet.Ggx.g_over_g1_at.Statement.{statement}
 use Rattle.optics.proofs.microfacet.Ggx.g_over_g1_at.Tie as tie
 
-chi-pass-at-requires : tie.Need-chi-pass-at-requires
-chi-pass-at-requires c κs = search needs
-
 returns : tie.Need-returns
 unfolding gOverG1At ofBits
 returns c =
@@ -16,9 +13,6 @@ returns c =
       c .before .if1 .taken,
       c .if2 .taken,
     )
-
-lambda-requires : tie.Need-lambda-requires
-lambda-requires c κs = search needs
 
 returns-2 : tie.Need-returns-2
 unfolding gOverG1At ofBits
@@ -35,6 +29,4 @@ unfolding gOverG1At ofBits
 returns-3 c = rw (← c .before .chi-pass-at .ensures, c .if1 .left)
 
 pub g-over-g1-at-spec : {M : Type 1} → statement M
-g-over-g1-at-spec =
-    tie.close
-    (tie.spec chi-pass-at-requires returns lambda-requires returns-2 returns-3)
+g-over-g1-at-spec = tie.close (tie.spec (λ c κs. search needs) returns (λ c κs. search needs) returns-2 returns-3)

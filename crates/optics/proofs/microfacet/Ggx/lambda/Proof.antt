@@ -8,27 +8,9 @@ use Rattle.optics.proofs.SharedTerms.{cos-phi, sin-phi}
 use Rattle.optics.proofs.microfacet.Ggx.lambda.Statement.{statement}
 use Rattle.optics.proofs.microfacet.Ggx.lambda.Tie as tie
 
-max-requires : tie.Need-max-requires
-max-requires c κs = search needs
-
-is-infinite-requires : tie.Need-is-infinite-requires
-is-infinite-requires c κs = search needs
-
 returns : tie.Need-returns
 unfolding lambda lambdaOf alpha2 tan2Theta sin2Theta cos2Theta sinTheta powi2 ofBits
 returns c = rw (← c .before .before .max .ensures, ← c .before .is-infinite .ensures, c .if1 .taken)
-
-sqrt-requires : tie.Need-sqrt-requires
-sqrt-requires c κs = search needs
-
-azimuth-requires : tie.Need-azimuth-requires
-azimuth-requires c κs = search needs
-
-azimuth-requires-2 : tie.Need-azimuth-requires-2
-azimuth-requires-2 c κs = search needs
-
-sqrt-or-zero-requires : tie.Need-sqrt-or-zero-requires
-sqrt-or-zero-requires c κs = search needs
 
 returns-2 : tie.Need-returns-2
 unfolding lambda lambdaOf alpha2 tan2Theta sin2Theta cos2Theta sinTheta powi2 ofBits
@@ -48,12 +30,5 @@ returns-2 c =
 pub lambda-spec : {M : Type 1} → statement M
 lambda-spec =
     tie.close
-    (tie.spec
-    max-requires
-    is-infinite-requires
-    returns
-    sqrt-requires
-    azimuth-requires
-    azimuth-requires-2
-    sqrt-or-zero-requires
-    returns-2)
+    (tie.spec (λ c κs. search needs) (λ c κs. search needs) returns (λ c κs. search needs) (λ c κs. search needs) (λ c κs. search needs)
+    (λ c κs. search needs) returns-2)

@@ -8,11 +8,8 @@ returns : tie.Need-returns
 unfolding ofBits
 returns c = rw (c .if1 .taken)
 
-lambda-requires : tie.Need-lambda-requires
-lambda-requires c κs = search needs
-
 returns-2 : tie.Need-returns-2
 returns-2 c = rw (c .before .if1 .left, ← c .lambda .ensures)
 
 pub lambda-unless-spec : {M : Type 1} → statement M
-lambda-unless-spec = tie.close (tie.spec returns lambda-requires returns-2)
+lambda-unless-spec = tie.close (tie.spec returns (λ c κs. search needs) returns-2)

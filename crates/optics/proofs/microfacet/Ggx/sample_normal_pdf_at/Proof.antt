@@ -6,21 +6,6 @@ use borrow.Author.Needs.{needs}
 use Rattle.optics.proofs.microfacet.Ggx.sample_normal_pdf_at.Statement.{statement}
 use Rattle.optics.proofs.microfacet.Ggx.sample_normal_pdf_at.Tie as tie
 
-g1-at-requires : tie.Need-g1-at-requires
-g1-at-requires c κs = search needs
-
-d-requires : tie.Need-d-requires
-d-requires c κs = search needs
-
-abs-requires : tie.Need-abs-requires
-abs-requires c κs = search needs
-
-abs-requires-2 : tie.Need-abs-requires-2
-abs-requires-2 c κs = search needs
-
-max-requires : tie.Need-max-requires
-max-requires c κs = search needs
-
 returns : tie.Need-returns
 unfolding sampleNormalPdfAt cosTheta ofBits
 returns c =
@@ -34,4 +19,5 @@ returns c =
 
 pub sample-normal-pdf-at-spec : {M : Type 1} → statement M
 sample-normal-pdf-at-spec =
-    tie.close (tie.spec g1-at-requires d-requires abs-requires abs-requires-2 max-requires returns)
+    tie.close
+    (tie.spec (λ c κs. search needs) (λ c κs. search needs) (λ c κs. search needs) (λ c κs. search needs) (λ c κs. search needs) returns)

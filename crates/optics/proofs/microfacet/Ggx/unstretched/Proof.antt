@@ -6,15 +6,9 @@ use borrow.Author.Needs.{needs}
 use Rattle.optics.proofs.microfacet.Ggx.unstretched.Statement.{statement}
 use Rattle.optics.proofs.microfacet.Ggx.unstretched.Tie as tie
 
-max-requires : tie.Need-max-requires
-max-requires c κs = search needs
-
-normalize-requires : tie.Need-normalize-requires
-normalize-requires c κs = search needs
-
 returns : tie.Need-returns
 unfolding unstretched epsilon decimal ofBits
 returns c = rw (← c .before .max .ensures, ← c .normalize .ensures)
 
 pub unstretched-spec : {M : Type 1} → statement M
-unstretched-spec = tie.close (tie.spec max-requires normalize-requires returns)
+unstretched-spec = tie.close (tie.spec (λ c κs. search needs) (λ c κs. search needs) returns)

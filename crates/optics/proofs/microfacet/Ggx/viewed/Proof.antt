@@ -5,12 +5,6 @@ use borrow.Author.Needs.{needs}
 use Rattle.optics.proofs.microfacet.Ggx.viewed.Statement.{statement}
 use Rattle.optics.proofs.microfacet.Ggx.viewed.Tie as tie
 
-normalize-requires : tie.Need-normalize-requires
-normalize-requires c κs = search needs
-
-negate-requires : tie.Need-negate-requires
-negate-requires c κs = search needs
-
 returns : tie.Need-returns
 unfolding viewed upright stretched ofBits
 returns c = rw (← c .before .before .before .normalize .ensures, c .before .if1 .taken, ← c .negate .ensures)
@@ -20,4 +14,4 @@ unfolding viewed upright stretched ofBits
 returns-2 c = rw (← c .before .before .normalize .ensures, c .if1 .left)
 
 pub viewed-spec : {M : Type 1} → statement M
-viewed-spec = tie.close (tie.spec normalize-requires negate-requires returns returns-2)
+viewed-spec = tie.close (tie.spec (λ c κs. search needs) (λ c κs. search needs) returns returns-2)

@@ -7,9 +7,6 @@ use Rattle.path.specs.Path.{start, ones}
 use Rattle.path.proofs.records.Path.start.Statement.{statement}
 use Rattle.path.proofs.records.Path.start.Tie as tie
 
-is-start-requires : tie.Need-is-start-requires
-is-start-requires c κs = search needs
-
 returns : tie.Need-returns
 unfolding start refuse _▷_ started number ones ofBits
 returns c = rw (← c .before .is-start .ensures, c .if1 .taken)
@@ -19,4 +16,4 @@ unfolding start refuse _▷_ started number ones ofBits
 returns-2 c = rw (← c .before .is-start .ensures, c .if1 .left)
 
 pub start-spec : {M : Type 1} → statement M
-start-spec = tie.close (tie.spec is-start-requires returns returns-2)
+start-spec = tie.close (tie.spec (λ c κs. search needs) returns returns-2)
