@@ -3,7 +3,8 @@ use super::harness::*;
 use super::inputs::Rng;
 use super::numbers::{basis_calls, root_calls, BasisCalls, RootCall};
 use super::optics::{of_surface_calls, OfSurface};
-use super::path::{checked_bounce, plain, usual_bounce, usual_path, usual_surface, Bounce, BounceCall, Path};
+use super::library::run_bounces;
+use super::path::{checked_bounce, plain, plain_many, surface_of, usual_bounce, usual_path, usual_surface, words_in, Bounce, BounceCall, Path, INS, OUTS};
 use super::surfaces::Surface;
 use super::Function;
 use crate::Vec3;
@@ -117,6 +118,17 @@ fn bounces(data: &[(Path, Bounce)], s: &Surface, f: BounceCall) -> f64 {
     })
 }
 
+/// Bounces on one surface in one call, each on a path of its own.
+#[inline(never)]
+fn many(data: &[[f64; INS]], s: &Surface, f: fn(&Surface, &[f64], &mut [f64])) -> f64 {
+    let mut out = vec![0.0; data.len() * OUTS];
+    let f = black_box(f);
+    timed(data.len(), || {
+        f(s, data.as_flattened(), &mut out);
+        out
+    })
+}
+
 /// ns for each bounce of lists of `n`, each on one path and on four surfaces by turns.
 #[inline(never)]
 fn lists(data: &[(Path, Bounce)], s: &[Surface], n: usize, f: BounceCall) -> f64 {
@@ -161,6 +173,21 @@ fn bench_bounces(rng: &mut Rng) {
     ] {
         let s = usual_surface(rng, glass, rough, varying);
         let (a, b) = least(rng, one, |d| bounces(d, &s, checked_bounce), |d| bounces(d, &s, plain));
+        line(name, a, b);
+    }
+    println!("each of {SIZE} bounces in one call, the surface checked once on both sides");
+    let row = |rng: &mut Rng| words_in(&usual_path(rng), &usual_bounce(rng));
+    for (name, glass, rough, varying, absorbs) in [
+        ("many, rough metal", false, true, true, true),
+        ("many, rough metal, k 0", false, true, true, false),
+        ("many, delta metal", false, false, true, true),
+        ("many, rough glass, constant eta", true, true, false, false),
+        ("many, rough glass, varying eta", true, true, true, false),
+        ("many, delta glass, constant eta", true, false, false, false),
+        ("many, delta glass, varying eta", true, false, true, false),
+    ] {
+        let s = surface_of(rng, glass, rough, varying, absorbs);
+        let (a, b) = least(rng, row, |d| many(d, &s, run_bounces), |d| many(d, &s, plain_many));
         line(name, a, b);
     }
     println!("each bounce of a list on one path: metal and glass, rough and delta by turns");

@@ -2,6 +2,7 @@
 //! shares written once more from the document: whole bounces, in lists on one path.
 use super::harness::*;
 use super::inputs::{near_unit, Rng};
+use super::library::output_of;
 use super::numbers::record;
 use super::optics::{caught, g_over_g1, Color, Written};
 use super::spectra;
@@ -137,6 +138,11 @@ pub fn refused(p: &Path, s: &Surface, b: &Bounce) -> u64 {
     if surface != 0 {
         return surface;
     }
+    refused_on(p, b)
+}
+
+/// The same on a surface that is accepted.
+fn refused_on(p: &Path, b: &Bounce) -> u64 {
     let wavelengths = is_wavelength(p.lambda.0[0]) && p.lambda.0[1..].iter().all(|l| is_lookup(*l));
     let checks = [
         (4, wavelengths),
@@ -677,14 +683,45 @@ pub fn sample(seed: u64) -> String {
 
 // ---- for the benchmark
 
+fn kept(number: u64, p: Path) -> Bounced {
+    Bounced { number, case: REFUSED, wi: Vec3::ZERO, density: NO_DENSITY, shares: NO_SHARES, path: p }
+}
+
 /// A whole checked bounce as one writes it in Rust on lumo's functions, with nothing computed twice but what
 /// these compute twice.
 #[inline(never)]
 pub extern "C-unwind" fn plain(p: Path, s: &Surface, b: Bounce) -> Bounced {
-    let number = refused(&p, s, &b);
-    if number != 0 {
-        return Bounced { number, case: REFUSED, wi: Vec3::ZERO, density: NO_DENSITY, shares: NO_SHARES, path: p };
+    match refused(&p, s, &b) {
+        0 => plain_on(p, s, s.glass && s.distribution().constant_eta(), b),
+        number => kept(number, p),
     }
+}
+
+/// Many bounces on one surface, likewise: the surface is checked once, and whether its eta is constant is found once.
+#[inline(never)]
+pub fn plain_many(s: &Surface, input: &[f64], output: &mut [f64]) {
+    let of_surface = surface_refused(s.glass, s.a, &s.eta, &s.k);
+    let constant = of_surface == 0 && s.glass && s.distribution().constant_eta();
+    for (w, out) in input.chunks_exact(INS).zip(output.chunks_exact_mut(OUTS)) {
+        let (p, b) = of_words(w);
+        let number = if of_surface == 0 { refused_on(&p, &b) } else { of_surface };
+        let a = if number == 0 { plain_on(p, s, constant, b) } else { kept(number, p) };
+        out.copy_from_slice(&output_of(&a));
+    }
+}
+
+/// A path and a bounce from their words.
+#[inline]
+fn of_words(w: &[f64]) -> (Path, Bounce) {
+    let four = |i: usize| Color([w[i], w[i + 1], w[i + 2], w[i + 3]]);
+    let three = |i: usize| Vec3::new(w[i], w[i + 1], w[i + 2]);
+    let path = Path { lambda: four(0), power: four(4) };
+    (path, Bounce { wo: three(8), normal: three(11), backface: w[14] != 0.0, u: w[15], disk: w[16], c: w[17], s: w[18], ks: four(19), tf: four(23) })
+}
+
+/// A bounce that is accepted.
+#[inline]
+fn plain_on(p: Path, s: &Surface, constant: bool, b: Bounce) -> Bounced {
     let bxdf = s.rust.as_ref().unwrap();
     let of_facets = s.distribution();
     let uvw = Onb::new(b.normal);
@@ -700,7 +737,7 @@ pub extern "C-unwind" fn plain(p: Path, s: &Surface, b: Bounce) -> Bounced {
     };
     let (wh, sampled, reflection, shares, one_direction);
     if s.glass {
-        let wl = if of_facets.constant_eta() { lambda.lambda[0] } else { lambda.terminate() };
+        let wl = if constant { lambda.lambda[0] } else { lambda.terminate() };
         let eta = of_facets.eta_at(wl);
         one_direction = eta == 1.0 || of_facets.is_delta();
         wh = if one_direction { Vec3::Z } else { of_facets.sample_normal(wo, random_of(&b)) };
@@ -763,10 +800,15 @@ pub type BounceCall = extern "C-unwind" fn(Path, &Surface, Bounce) -> Bounced;
 
 /// A surface as a renderer has it.
 pub fn usual_surface(rng: &mut Rng, glass: bool, rough: bool, varying: bool) -> Surface {
+    surface_of(rng, glass, rough, varying, !glass)
+}
+
+/// The same, and metal may be without absorption.
+pub fn surface_of(rng: &mut Rng, glass: bool, rough: bool, varying: bool, absorbs: bool) -> Surface {
     let a = if rough { rng.between(0.05, 0.8) } else { 1e-5 };
     let step = if varying { 0.001 } else { 0.0 };
     let eta: Vec<f64> = (0..95).map(|i| 1.5 + step * i as f64).collect();
-    let k: Vec<f64> = (0..95).map(|i| if glass { 0.0 } else { 2.0 + 0.01 * i as f64 }).collect();
+    let k: Vec<f64> = (0..95).map(|i| if absorbs { 2.0 + 0.01 * i as f64 } else { 0.0 }).collect();
     Surface::new(glass, Vec2::splat(a), &eta, &k)
 }
 

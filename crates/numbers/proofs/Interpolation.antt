@@ -28,7 +28,7 @@ use Rattle.numbers.proofs.Expression.{size-ab}
 use Rattle.numbers.proofs.Direction.{sum-mag}
 use Rattle.numbers.proofs.UnitVector.{sum-err, fine-pos}
 use Rattle.numbers.specs.Float.{_⊕_, _⊖_, _⊗_, _⊘_, f0, f1, f-1, decimal, within}
-use Rattle.numbers.specs.DenseSpectrum.{lambdaMin, lambdaMax, denseSamples, denseStep, terminated, ceiling, entry, interpolate, upperPoint, upperLambda, upperWeight, sampleOneAt, sampleOne, every, allWithin, isWavelength}
+use Rattle.numbers.specs.DenseSpectrum.{lambdaMin, lambdaMax, denseSamples, denseStep, terminated, ceiling, entry, interpolate, upperPoint, upperLambda, upperWeight, sampleOneAt, sampleOne, every, allWithin, inTable, isWavelength}
 
 abbrev B : Format
 B = binary64
@@ -371,12 +371,17 @@ max-is : Fin lambdaMax × (N lambdaMax ≡ 0) × (mag lambdaMax ≡ 830 * U)
 unfolding fits N U
 max-is = ((tt, tt), refl, refl)
 
-wave-range : (w : Float) → T (fits B w) → T (isWavelength w) → Range lambdaMin lambdaMax w
-unfolding isWavelength within
+wave-range : (w : Float) → T (fits B w) → T (inTable w) → Range lambdaMin lambdaMax w
+unfolding inTable within
 wave-range w f h =
     let l = and-l (le lambdaMin w) (le w lambdaMax) h in
     let m = and-r (le lambdaMin w) (le w lambdaMax) h in
     range-of lambdaMin lambdaMax w (min-is .0) (max-is .0) (min-is .1) (max-is .1) f l m
+
+-- what is accepted lies in the table
+pub wave-in-table : (w : Float) → T (isWavelength w) → T (inTable w)
+unfolding isWavelength inTable
+wave-in-table w h = h
 
 -- ---- the least whole number from q up
 whole-is : (k : ℕ) → k ≤ 470 → Is (ofInt binary64 (pos k)) false (k * U)
@@ -560,7 +565,7 @@ module _ (step : Float) (s n : ℕ) (g : Grid s n) (i : Is step false (s * U)) w
           right : (a b : ℕ) → b ≤ a + b
           right a b = omega arith
 
-  module _ (w : Float) (f : T (fits B w)) (h : T (isWavelength w)) where
+  module _ (w : Float) (f : T (fits B w)) (h : T (inTable w)) where
     wave : Range lambdaMin lambdaMax w
     wave = wave-range w f h
 
@@ -686,7 +691,7 @@ module _ (step : Float) (s n : ℕ) (g : Grid s n) (i : Is step false (s * U)) w
         above-one zero e p = absurd (lt-irrefl 0 (subst (λ (x : ℕ). 0 < x) e p))
         above-one (suc j) e p = share j e
 
-pub place-of : (step w : Float) (s n : ℕ) → Grid s n → Is step false (s * U) → T (fits B w) → T (isWavelength w) → Place step w n
+pub place-of : (step w : Float) (s n : ℕ) → Grid s n → Is step false (s * U) → T (fits B w) → T (inTable w) → Place step w n
 place-of step w s n g i f h = place step s n g i w f h
 
 -- ---- the value between two entries
@@ -932,7 +937,7 @@ entry-range lo hi values i n b f h e l =
     let t = entry-every (within lo hi) values i h (lt-of-le-of-lt l (lt-of-lt-of-le (omega arith) (le-of-eq (sym e)))) in
     range-of lo hi v (b .fin-lo) (b .fin-hi) (b .above-lo) (b .above-hi) (f i) (and-l (le lo v) (le v hi) t) (and-r (le lo v) (le v hi) t)
 
-pub not-terminated : (w : Float) → T (fits B w) → T (isWavelength w) → T (eq w terminated) → ⊥
+pub not-terminated : (w : Float) → T (fits B w) → T (inTable w) → T (eq w terminated) → ⊥
 unfolding le fits P N U
 not-terminated w f h t =
     let r = wave-range w f h in
@@ -942,7 +947,7 @@ not-terminated w f h t =
     none : (p n m : ℕ) → p + n ≡ m → n ≡ 0 → 0 < m → p + 0 ≤ 0 + n → ⊥
     none p n m a b c d = omega arith
 
-pub sample-nearly : (step w lo hi : Float) (s n : ℕ) (values : List Float) → Grid s n → Is step false (s * U) → T (fits B w) → T (isWavelength w)
+pub sample-nearly : (step w lo hi : Float) (s n : ℕ) (values : List Float) → Grid s n → Is step false (s * U) → T (fits B w) → T (inTable w)
     → Limits lo hi → length values ≡ suc n → AllFit values → T (allWithin lo hi values) → Nearly lo hi (sampleOneAt step values w)
 unfolding sampleOneAt upperWeight
 sample-nearly step w lo hi s n values g i f h b e a t = started (eq w terminated) (not-terminated w f h)
@@ -1022,7 +1027,7 @@ read-nearly e h =
     at-most : (u l m : ℕ) → l ≤ 100 * u → k50 * m ≤ k50 * l + l → m ≤ readMost * u
     at-most u l m a b = omega arith
 
-pub sample-index-at : (step w : Float) (s n : ℕ) (values : List Float) → Grid s n → Is step false (s * U) → T (fits B w) → T (isWavelength w)
+pub sample-index-at : (step w : Float) (s n : ℕ) (values : List Float) → Grid s n → Is step false (s * U) → T (fits B w) → T (inTable w)
     → length values ≡ suc n → AllFit values → T (allWithin (decimal 1 100) (decimal 100 1) values) → Read (sampleOneAt step values w)
 sample-index-at step w s n values g i f h e a t =
     read-nearly (sampleOneAt step values w) (sample-nearly step w (decimal 1 100) (decimal 100 1) s n values g i f h eta-limits e a t)
@@ -1031,10 +1036,10 @@ sample-index-at step w s n values g i f h e a t =
 pub dense-step : Is denseStep false (5 * U)
 dense-step = (refl, omega arith)
 
-pub dense-place : (w : Float) → T (fits B w) → T (isWavelength w) → Place denseStep w 94
+pub dense-place : (w : Float) → T (fits B w) → T (inTable w) → Place denseStep w 94
 dense-place w f h = place-of denseStep w 5 94 grid-5 dense-step f h
 
-pub sample-index : (w : Float) (values : List Float) → T (fits B w) → T (isWavelength w)
+pub sample-index : (w : Float) (values : List Float) → T (fits B w) → T (inTable w)
     → length values ≡ denseSamples → AllFit values → T (allWithin (decimal 1 100) (decimal 100 1) values) → Read (sampleOne values w)
 unfolding sampleOne
 sample-index w values f h e a t = sample-index-at denseStep w 5 94 values grid-5 dense-step f h e a t
@@ -1043,5 +1048,5 @@ sample-index w values f h e a t = sample-index-at denseStep w 5 94 values grid-5
 pub unit-step : Is f1 false (1 * U)
 unit-step = (refl, omega arith)
 
-pub unit-place : (w : Float) → T (fits B w) → T (isWavelength w) → Place f1 w 470
+pub unit-place : (w : Float) → T (fits B w) → T (inTable w) → Place f1 w 470
 unit-place w f h = place-of f1 w 1 470 grid-1 unit-step f h

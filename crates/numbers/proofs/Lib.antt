@@ -21,4 +21,5 @@ pub mod Ceiling
 pub mod Direction
 pub mod LocalBasis
 pub mod UnitVector
+pub mod GridPoint
 pub mod Interpolation

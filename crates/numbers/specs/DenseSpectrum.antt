@@ -8,7 +8,7 @@ use lib.ListN.{length, getD}
 use lib.Ieee.{Float, nan, fin, binary64, toUnsigned, ofInt, lt, eq}
 use Rattle.numbers.specs.Float.{_⊕_, _⊖_, _⊗_, _⊘_, f0, f1, f-1, within, isFinite}
 
--- ---- the table: what 02 (i) and (viii) change stands here alone
+-- ---- the table: what 02 (i) changes stands here alone
 -- wavelengths from 360 to 830, in nanometres
 abbrev pub lambdaMin : Float
 lambdaMin = fin false 45 (pos 3)
@@ -22,6 +22,11 @@ denseSamples = 95
 
 abbrev pub denseStep : Float
 denseStep = fin false 5 (pos 0)
+
+-- ---- what is accepted
+-- from the table's start to this: 02 (viii) moves it past the table's end
+abbrev pub acceptedMax : Float
+acceptedMax = lambdaMax
 
 -- the wavelength that stands for one that was ended
 abbrev pub terminated : Float
@@ -82,9 +87,13 @@ allFinite values = every isFinite values
 unfoldable pub isTable : List Float → Bool
 isTable values = eqb (length values) denseSamples
 
--- a wavelength that a path may start with
+-- a wavelength that the table reaches
+unfoldable pub inTable : Float → Bool
+inTable lambda = within lambdaMin lambdaMax lambda
+
+-- one that a path may start with
 unfoldable pub isWavelength : Float → Bool
-isWavelength lambda = within lambdaMin lambdaMax lambda
+isWavelength lambda = within lambdaMin acceptedMax lambda
 
 -- one that a lookup accepts: one that was ended as well
 unfoldable pub isLookupWavelength : Float → Bool

@@ -9,5 +9,6 @@ pub mod Complex
 pub mod Onb
 pub mod SphericalUtils
 pub mod DenseSpectrum
+pub mod GridPoint
 pub mod Checked
 pub mod Samples

@@ -5,12 +5,16 @@ ghost use mathlib.Core.Path.{_≡_};
 ghost use Prim.Native.Nat.{_-_};
 ghost use lib.Ieee.{nan, eq};
 ghost use lib.ListN.{getD};
+ghost use Rattle.numbers.specs.GridPoint.{gridPoint, sampleFrom};
 ghost use Rattle.numbers.specs.DenseSpectrum.{ceiling, interpolate, sampleOne, every, isConstant, allWithin, allFinite, isTable, isWavelength, isLookupWavelength};
 
-// The range of wavelengths, in nanometres.
+// The range of wavelengths of a table, in nanometres.
 pub const LAMBDA_MIN: f64 = 360.0;
 
 pub const LAMBDA_MAX: f64 = 830.0;
+
+// The last wavelength that is accepted: for now where the table ends.
+pub const ACCEPTED_MAX: f64 = LAMBDA_MAX;
 
 // Spectrum sampled at 5nm steps from 360nm to 830nm
 pub struct DenseSpectrum {}
@@ -32,18 +36,48 @@ impl DenseSpectrum {
     pub fn sample_one(values: &[f64], lambda: f64) -> f64
         ensures { λ r. ⌜ r ≡ sampleOne (now (values .entry)) lambda ⌝ }
     {
-        if lambda == 0.0 {
+        DenseSpectrum::sample_from(values, GridPoint::new(lambda))
+    }
+
+    // The same, from the wavelength's place among the grid points.
+    pub fn sample_from(values: &[f64], point: GridPoint) -> f64
+        ensures { λ r. ⌜ r ≡ sampleFrom (now (values .entry)) point ⌝ }
+    {
+        if point.ended {
             return 0.0;
         }
-        let b1 = ceiling((lambda - LAMBDA_MIN) / DenseSpectrum::STEP);
-        let l1 = LAMBDA_MIN + DenseSpectrum::STEP * std::num::nearest_u64_to_f64(b1);
-        if lambda == l1 {
+        let b1 = point.upper;
+        if point.exact {
             return entry(values, b1);
         }
-        let x1 = (lambda - (l1 - DenseSpectrum::STEP)) / DenseSpectrum::STEP;
         let i0 = entry(values, before(b1));
         let i1 = entry(values, b1);
-        interpolate(x1, i0, i1)
+        interpolate(point.weight, i0, i1)
+    }
+}
+
+// Where a wavelength lies among the grid points, which is found once for spectra that are read at one
+// wavelength: `ended` for one that was ended, `exact` at the wavelength of the entry `upper`, and
+// `weight` how far it lies from the entry before.
+pub struct GridPoint {
+    pub ended: bool,
+    pub exact: bool,
+    pub upper: u64,
+    pub weight: f64,
+}
+
+impl GridPoint {
+    pub fn new(lambda: f64) -> GridPoint
+        ensures { λ r. ⌜ r ≡ gridPoint lambda ⌝ }
+    {
+        let b1 = ceiling((lambda - LAMBDA_MIN) / DenseSpectrum::STEP);
+        let l1 = LAMBDA_MIN + DenseSpectrum::STEP * std::num::nearest_u64_to_f64(b1);
+        GridPoint {
+            ended: lambda == 0.0,
+            exact: lambda == l1,
+            upper: b1,
+            weight: (lambda - (l1 - DenseSpectrum::STEP)) / DenseSpectrum::STEP,
+        }
     }
 }
 
@@ -145,7 +179,7 @@ pub fn is_table(values: &[f64]) -> bool
 pub fn is_wavelength(lambda: f64) -> bool
     ensures { λ r. ⌜ r ≡ isWavelength lambda ⌝ }
 {
-    float::within(LAMBDA_MIN, LAMBDA_MAX, lambda)
+    float::within(LAMBDA_MIN, ACCEPTED_MAX, lambda)
 }
 
 // Whether a lookup accepts the wavelength: 0, which stands for one that was ended, as well.

@@ -16,7 +16,7 @@ use Rattle.numbers.proofs.Rounding.{rnd}
 use Rattle.numbers.proofs.Units.{U, O, U-pos, U-O, mag, either}
 use Rattle.numbers.proofs.NonNegative.{Ext, Fine, mul-ext, add-ext, nil-ext, fine-of, rnd-zero, share-of}
 use Rattle.numbers.proofs.Error.{Fin, N}
-use Rattle.numbers.proofs.Interpolation.{readMost, Read, Index, read-index, AllFit, Place, range-of, fine-N, dense-place, entry-every, sample-index}
+use Rattle.numbers.proofs.Interpolation.{readMost, Read, Index, read-index, AllFit, Place, range-of, fine-N, dense-place, entry-every, sample-index, wave-in-table}
 use Rattle.numbers.proofs.Shares.{shares}
 use Rattle.numbers.specs.Float.{_⊕_, _⊖_, _⊗_, f0, f1, decimal, within}
 use Rattle.numbers.specs.DenseSpectrum.{denseSamples, isTable, denseStep, terminated, entry, interpolate, upperPoint, upperLambda, upperWeight, sampleOneAt, sampleOne, allWithin, isWavelength}
@@ -38,7 +38,7 @@ unfolding etaHolds isTable etaMin etaAt
 eta-read eta lambda all holds f w =
     let entries = eqb→eq (length eta) denseSamples (and-l (eqb (length eta) denseSamples) (allWithin (decimal 1 100) etaMax eta) holds) in
     let limits = and-r (eqb (length eta) denseSamples) (allWithin (decimal 1 100) etaMax eta) holds in
-    sample-index lambda eta f w entries all (subst (λ (hi : Float). T (allWithin (decimal 1 100) hi eta)) max-is limits)
+    sample-index lambda eta f (wave-in-table lambda w) entries all (subst (λ (hi : Float). T (allWithin (decimal 1 100) hi eta)) max-is limits)
 
 pub eta-index : (eta : List Float) (lambda : Float) → AllFit eta → T (etaHolds eta) → T (fits B lambda) → T (isWavelength lambda)
     → Index (etaAt eta lambda)
@@ -107,7 +107,7 @@ unfolding sampleOne sampleOneAt allZero allWithin upperWeight
 zero-sample k w all len z f h = ended (eq w terminated)
   where
     place : Place denseStep w 94
-    place = dense-place w f h
+    place = dense-place w f (wave-in-table w h)
 
     j : ℕ
     j = upperPoint denseStep w

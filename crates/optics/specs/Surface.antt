@@ -1,8 +1,10 @@
 -- A surface of metal or glass, what it may hold, and its spectra at a wavelength (document 01, "Records"; lumo's `MicrofacetConfig`). Definitions only.
-use mathlib.Core.Bool.{Bool, false, _&&_, _||_}
+use Prim.Native.Nat.{ℕ}
+use mathlib.Core.Bool.{Bool, false, _&&_, _||_, cond}
 use mathlib.Core.List.{List}
 use lib.Ieee.{Float, fin}
 use lib.IntN.{pos}
+use lib.Dec.{eqb, leb}
 use Rattle.numbers.specs.Float.{f0, f1, decimal, max, within}
 use Rattle.numbers.specs.DenseSpectrum.{isTable, sampleOne, isConstant, allWithin}
 use Rattle.numbers.specs.Vec2.{splat}
@@ -10,6 +12,18 @@ use Rattle.numbers.specs.declared.vec2.Vec2.{Vec2}
 use Rattle.optics.specs.declared.microfacet.Kind.{Kind}
 use Rattle.optics.specs.declared.microfacet.Kind.the-variants.{Metal, Glass}
 use Rattle.optics.specs.declared.microfacet.Surface.{Surface}
+
+-- ---- a kind's code, wherever a kind is a number: 0 metal, 1 glass (02 (vi) has the same)
+unfoldable pub kindCode : Kind → ℕ
+kindCode Metal = 0
+kindCode Glass = 1
+
+abbrev pub isKindCode : ℕ → Bool
+isKindCode code = leb code 1
+
+-- a number that is none reads as glass: who takes one refuses it
+unfoldable pub kindOf : ℕ → Kind
+kindOf code = cond (eqb code 0) Metal Glass
 
 -- A surface with its spectra: the refraction index eta and the absorption coefficient k.
 pub record Microsurface : Type 0 where

@@ -331,9 +331,8 @@ pub fn f_at(
     if let Check::Refused(why) = check {
         return FloatAnswer::Refused(why);
     }
-    let index = microfacet::eta_at(eta, lambda);
-    let absorption = microfacet::k_at(k, lambda);
-    FloatAnswer::Given(microfacet::f_at(wo, wh, index, absorption))
+    let at = microfacet::optical_constants(eta, k, lambda);
+    FloatAnswer::Given(microfacet::f_at(wo, wh, at.eta, at.k))
 }
 
 pub fn f(surface: Surface, eta: &[f64], k: &[f64], wo: Vec3, wh: Vec3, lambda: Color) -> ColorAnswer
@@ -424,12 +423,11 @@ pub fn pdf(
     if let Check::Refused(why) = check {
         return FloatAnswer::Refused(why);
     }
-    let index = microfacet::eta_at(eta, lambda);
-    let absorption = microfacet::k_at(k, lambda);
+    let at = microfacet::optical_constants(eta, k, lambda);
     let kind = surface.kind;
     let roughness = surface.roughness;
     let facets = Ggx {
         roughness: roughness,
     };
-    finite_only(bxdf::pdf(kind, facets, wo, wi, reflection, index, absorption))
+    finite_only(bxdf::pdf(kind, facets, wo, wi, reflection, at.eta, at.k))
 }

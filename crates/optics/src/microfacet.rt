@@ -4,6 +4,7 @@ use crate::color::Color;
 use numbers::EPSILON;
 use numbers::complex::Complex;
 use numbers::dense_spectrum::DenseSpectrum;
+use numbers::dense_spectrum::GridPoint;
 use numbers::float;
 use numbers::square_root::sqrt;
 use numbers::square_root::sqrt_or_zero;
@@ -15,7 +16,7 @@ ghost use Rattle.numbers.specs.Float.{f0};
 ghost use Rattle.optics.specs.Facets.{isDelta, lambda, chiPass, g1, g, gOverG1, d, sampleNormalPdf, fSchlick, disneyDiffuse};
 ghost use Rattle.optics.specs.SharedTerms.{azimuth, chiPassAt, g1At, gOverG1At, sampleNormalPdfAt};
 ghost use Rattle.optics.specs.Fresnel.{frFacing, frReal, complexCosI, rPar, rPer, frComplexFacing, frComplex, fresnel, fAt, f};
-ghost use Rattle.optics.specs.Surface.{etaAt, kAt, constantEta};
+ghost use Rattle.optics.specs.Surface.{kindCode, isKindCode, kindOf, etaAt, kAt, constantEta};
 ghost use Rattle.optics.specs.Sampler.{viewed, tangent, onHemisphere, combined, unstretched, sampleNormal};
 
 pub const PI: f64 = 3.141592653589793;
@@ -24,6 +25,39 @@ pub const PI: f64 = 3.141592653589793;
 pub enum Kind {
     Metal,
     Glass,
+}
+
+// A kind's code, wherever a kind is a number: in C, in a file.
+pub const METAL_CODE: u64 = 0;
+
+pub const GLASS_CODE: u64 = 1;
+
+impl Kind {
+    pub fn code(self) -> u64
+        ensures { λ r. ⌜ r ≡ kindCode self ⌝ }
+    {
+        match self {
+            Kind::Metal => METAL_CODE,
+            Kind::Glass => GLASS_CODE,
+        }
+    }
+
+    // Whether a number is a kind's code.
+    pub fn is_code(code: u64) -> bool
+        ensures { λ r. ⌜ r ≡ isKindCode code ⌝ }
+    {
+        code <= GLASS_CODE
+    }
+
+    // The kind of a code. A number that is none reads as glass: who takes one refuses it.
+    pub fn of_code(code: u64) -> Kind
+        ensures { λ r. ⌜ r ≡ kindOf code ⌝ }
+    {
+        if code == METAL_CODE {
+            return Kind::Metal;
+        }
+        Kind::Glass
+    }
 }
 
 // Configurable parameters for a microsurface. Its spectra, the refraction index eta and the
@@ -53,6 +87,23 @@ pub fn k_at(k: &[f64], wl: f64) -> f64
     ensures { λ r. ⌜ r ≡ kAt (now (k .entry)) wl ⌝ }
 {
     DenseSpectrum::sample_one(k, wl)
+}
+
+// The refraction index and the absorption coefficient at one wavelength.
+pub struct OpticalConstants {
+    pub eta: f64,
+    pub k: f64,
+}
+
+// Both, from the wavelength's one place among the grid points.
+pub fn optical_constants(eta: &[f64], k: &[f64], wl: f64) -> OpticalConstants
+    ensures { λ r. ⌜ (r .eta ≡ etaAt (now (eta .entry)) wl) × (r .k ≡ kAt (now (k .entry)) wl) ⌝ }
+{
+    let point = GridPoint::new(wl);
+    OpticalConstants {
+        eta: DenseSpectrum::sample_from(eta, point),
+        k: DenseSpectrum::sample_from(k, point),
+    }
 }
 
 // The cosine or the sine of the azimuth, from the direction's part along x or y and the sine of its
@@ -334,7 +385,8 @@ pub fn f(eta: &[f64], k: &[f64], wo: Vec3, wh: Vec3, lambda: Color) -> Color
 fn fresnel_at(eta: &[f64], k: &[f64], cos_o: f64, wl: f64) -> f64
     ensures { λ r. ⌜ r ≡ fresnel «cos_o» (etaAt (now (eta .entry)) wl) (kAt (now (k .entry)) wl) ⌝ }
 {
-    fresnel(cos_o, eta_at(eta, wl), k_at(k, wl))
+    let at = optical_constants(eta, k, wl);
+    fresnel(cos_o, at.eta, at.k)
 }
 
 // Fresnel term with the full equations, at one wavelength, whose index is `eta` and absorption `k`.

@@ -30,7 +30,7 @@ use Rattle.path.specs.declared.records.Bounced.{Bounced}
 use Rattle.path.specs.declared.records.Density.the-variants as D
 use Rattle.optics.specs.Color.{all4}
 use Rattle.path.specs.Path.{path, ones, leading, terminate, isFilter, weighed}
-use Rattle.path.specs.Bounce.{advanced, checkBounce, leftOnGlass, leftOn, lambdaOn, localWo, facet, fresnelAt, share, scatter, weightFrom, weights}
+use Rattle.path.specs.Bounce.{advanced, checkBounce, leftOnGlass, leftOn, lambdaOn, localWo, facet, fresnelAt, share, scatter, weightFrom, weightsFrom, weights}
 use Rattle.path.specs.Reckoning.{unlessRefused, reckon}
 use Rattle.path.specs.Answer.{Outcome, refusal, lost, reflected, passed, outcome, densityOf, density, sharesOn, shares, branchOf, worked, onSurface, answered, bounce, pathOf}
 use Rattle.path.specs.Demand3.{F64, ColorF64, Step, StepF64, AllFell, SharesHold, DensityHolds, AnswerHolds, Holds, Run, end, bounced, Throughout, Demand3, NeverTotal}
@@ -116,7 +116,7 @@ pub record Kept (p : Path) (kind : Kind) (o : Outcome) (next : Path) : Type 0 wh
 -- ---- an accepted bounce
 module _ (p : Path) (m : Microsurface) (b : Bounce) (r : Ready p) (h : Given p m b) where
   weights4 : Weights4 (weights m (lambdaOn m (p .lambda)) b)
-  unfolding weights
+  unfolding weights weightsFrom
   weights4 =
       let lambda = lambdaOn m (p .lambda) in
       let s = scatter m lambda b in

@@ -33,7 +33,7 @@ use Rattle.optics.proofs.Samples as Optics
 use Rattle.path.specs.declared.records.Density.the-variants as D
 use Rattle.path.specs.declared.records.Shares.the-variants as S
 use Rattle.path.specs.Path.{path, leading, isPathLambda, isPower, isFilter, weighed}
-use Rattle.path.specs.Bounce.{advanced, checkBounce, checkRest, leftOnGlass, leftOn, lambdaOn, localWo, leadingEta, facetOf, facet, fresnelAt, share, scatterOn, scatter, oneDirection, shadowing, shadowingOn, metalShare, metalFilter, filter, weight, weightFrom, weights}
+use Rattle.path.specs.Bounce.{advanced, checkBounce, checkRest, leftOnGlass, leftOn, lambdaOn, localWo, leadingEta, facetOf, facet, fresnelAt, share, scatterOn, scatter, oneDirection, shadowing, shadowingOn, metalShare, metalFilter, filter, weight, weightFrom, weightsFrom, weights}
 use Rattle.path.specs.Answer.{reflected, passed, densityOf, density, sharesOn, shares, branchOf, worked, onSurface, answered, bounce}
 use Rattle.path.specs.Samples.{all, grid, constant, deltaMetal, deltaGlass, along, Samples, AllSamples}
 
@@ -166,7 +166,7 @@ module _ (a : Vec2) (eta k : List Float) (delta : isDelta a ≡ true) (eta-1 : R
   metal-weight u l z p q = rw (z, metal-fresnel u l p q, metal-shadowing u Z', metal-weight-half)
 
   metal-weights : (u : Float) → weights (metal a eta k) grid (along u) ≡ all half
-  unfolding weights etaAt kAt eq
+  unfolding weights weightsFrom etaAt kAt eq
   metal-weights u =
       rw (
         metal-scatter u,
@@ -282,7 +282,7 @@ module _ (a : Vec2) (eta k : List Float) (delta : isDelta a ≡ true) (same : co
   glass-weights :
       (u : Float) (wi : Vec3) (r : Bool) → scatter (glass a eta k) grid (along u) ≡ scattered wi r →
       weights (glass a eta k) grid (along u) ≡ all f1
-  unfolding weights eq
+  unfolding weights weightsFrom eq
   glass-weights u wi r s =
       rw (
         s,

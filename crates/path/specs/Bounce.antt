@@ -9,7 +9,7 @@ use Rattle.numbers.specs.Onb.{basis, toLocal}
 use Rattle.numbers.specs.DenseSpectrum.{terminated}
 use Rattle.numbers.specs.declared.vec2.Vec2.{Vec2}
 use Rattle.numbers.specs.declared.vec3.Vec3.{Vec3}
-use Rattle.optics.specs.Color.{color, all4}
+use Rattle.optics.specs.Color.{all4}
 use Rattle.optics.specs.Surface.{Microsurface, etaAt, kAt, constantEta}
 use Rattle.optics.specs.Facets.{isDelta, gOverG1}
 use Rattle.optics.specs.Fresnel.{fAt}
@@ -24,7 +24,7 @@ use Rattle.path.specs.declared.bsdf.Constant.{Constant}
 use Rattle.path.specs.declared.bsdf.Constant.the-variants.{Known, Unknown}
 use Rattle.path.specs.declared.records.Path.{Path}
 use Rattle.path.specs.declared.records.Bounce.{Bounce}
-use Rattle.path.specs.Path.{path, weighed, leading, terminate, isPathLambda, isPower, isFilter}
+use Rattle.path.specs.Path.{path, each2, each3, weighed, leading, terminate, isPathLambda, isPower, isFilter}
 
 -- ---- the checks, in 01's order ("At the counter")
 -- all but the surface's
@@ -120,6 +120,9 @@ filter Glass reflection F ks tf = cond reflection ks tf
 unfoldable pub weight : Float → Float → Float → Float
 weight wavelength filter q = cond (eq wavelength terminated) f0 (filter ⊗ q)
 
+unfoldable pub weightsOf : Color → Color → Float → Color
+weightsOf lambda filter q = each2 (λ wl x. weight wl x q) lambda filter
+
 -- and so does each if the light is lost
 unfoldable pub weightFrom : Scattered → Microsurface → Color → Bounce → Float → Float → Float → Float
 weightFrom lost m lambda b wavelength ks tf = f0
@@ -127,14 +130,11 @@ weightFrom totally m lambda b wavelength ks tf = f0
 weightFrom (scattered wi reflection) m lambda b wavelength ks tf =
     weight wavelength (filter (m .kind) reflection (fresnelAt m lambda b wavelength) ks tf) (shadowingOn m lambda b wi)
 
+unfoldable pub weightsFrom : Scattered → Microsurface → Color → Bounce → Color
+weightsFrom s m lambda b = each3 (weightFrom s m lambda b) lambda (b .ks) (b .tf)
+
 unfoldable pub weights : Microsurface → Color → Bounce → Color
-weights m lambda b =
-    let s = scatter m lambda b in
-    color
-    (weightFrom s m lambda b (lambda .s0) (b .ks .s0) (b .tf .s0))
-    (weightFrom s m lambda b (lambda .s1) (b .ks .s1) (b .tf .s1))
-    (weightFrom s m lambda b (lambda .s2) (b .ks .s2) (b .tf .s2))
-    (weightFrom s m lambda b (lambda .s3) (b .ks .s3) (b .tf .s3))
+weights m lambda b = weightsFrom (scatter m lambda b) m lambda b
 
 -- ---- the path after a bounce that isn't refused
 -- wavelengths end, then each power becomes itself times the weight at its wavelength

@@ -11,9 +11,12 @@ use Rattle.path.specs.declared.records.Path.{Path}
 abbrev pub path : Color → Color → Path
 path lambda power = record { lambda = lambda; power = power }
 
--- an operation on each two
+-- an operation on each two, and on each three
 abbrev pub each2 : (Float → Float → Float) → Color → Color → Color
 each2 f a b = color (f (a .s0) (b .s0)) (f (a .s1) (b .s1)) (f (a .s2) (b .s2)) (f (a .s3) (b .s3))
+
+abbrev pub each3 : (Float → Float → Float → Float) → Color → Color → Color → Color
+each3 f a b c = color (f (a .s0) (b .s0) (c .s0)) (f (a .s1) (b .s1) (c .s1)) (f (a .s2) (b .s2) (c .s2)) (f (a .s3) (b .s3) (c .s3))
 
 -- ---- a start: four wavelengths of the range, and powers 1.0; else 4
 unfoldable pub ones : Color

@@ -153,8 +153,7 @@ fn on_glass(
     };
 
     let leading = wavelength::leading_sample(lambda);
-    let index = microfacet::eta_at(eta, leading);
-    let absorption = microfacet::k_at(k, leading);
+    let at = microfacet::optical_constants(eta, k, leading);
 
     let uvw = Onb::new(b.normal);
     let wo = uvw.to_local(b.wo);
@@ -162,18 +161,18 @@ fn on_glass(
     let mfd = Ggx {
         roughness: roughness,
     };
-    let wh = dielectric::normal(wo, mfd, index, b.disk, b.c, b.s);
-    let f = microfacet::f_at(wo, wh, index, absorption);
+    let wh = dielectric::normal(wo, mfd, at.eta, b.disk, b.c, b.s);
+    let f = microfacet::f_at(wo, wh, at.eta, at.k);
     let shares = Shares::Of {
         reflected: f,
         passed: 1.0 - f,
     };
-    let Sampled::Direction { wi, reflection } = dielectric::sample_from(wo, wh, index, f, b.u)
+    let Sampled::Direction { wi, reflection } = dielectric::sample_from(wo, wh, at.eta, f, b.u)
     else {
         return lost(left, shares);
     };
 
-    let seen = seen_on_glass(mfd, index, absorption, wo, wi, wh, reflection);
+    let seen = seen_on_glass(mfd, at.eta, at.k, wo, wi, wh, reflection);
     let density = density_of(seen.pdf);
     let world = uvw.to_world(wi);
     if reflection {

@@ -6,7 +6,6 @@ use crate::plain;
 use crate::records::Bounce;
 use crate::records::Bounced;
 use crate::records::Path;
-use crate::thin;
 use numbers::refusal::Check;
 use numbers::vec3::Vec3;
 use optics::checked;
@@ -89,7 +88,7 @@ fn bounce_in(numbers: &[f64]) -> Bounce
 fn numbers_out(answer: Bounced) -> [f64; 18]
     ensures { λ r. ⌜ r ≡ numbersOut (outcome answer) ⌝ }
 {
-    let p = thin::path_in(answer);
+    let p = answer.path();
     let r = plain::of_bounced(answer);
     let number = std::num::nearest_u64_to_f64(r.number);
     let outcome = std::num::nearest_u64_to_f64(r.outcome);

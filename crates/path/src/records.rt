@@ -5,7 +5,7 @@ use numbers::vec3::Vec3;
 use optics::color::Color;
 ghost use mathlib.Core.Path.{_≡_};
 ghost use Rattle.path.specs.Path.{path, start, weighed};
-ghost use Rattle.path.specs.Answer.{started};
+ghost use Rattle.path.specs.Answer.{started, outcome, pathOf};
 
 // Four wavelengths, each with the power that is left. 0 is a wavelength that was ended; the first,
 // the leading one, never is.
@@ -69,6 +69,30 @@ pub enum Bounced {
         shares: Shares,
         path: Path,
     },
+}
+
+impl Bounced {
+    // The path that an answer carries.
+    pub fn path(self) -> Path
+        ensures { λ r. ⌜ r ≡ pathOf (outcome self) ⌝ }
+    {
+        match self {
+            Bounced::Refused { why: _, path } => path,
+            Bounced::Lost { shares: _, path } => path,
+            Bounced::Reflected {
+                wi: _,
+                density: _,
+                shares: _,
+                path,
+            } => path,
+            Bounced::Passed {
+                wi: _,
+                density: _,
+                shares: _,
+                path,
+            } => path,
+        }
+    }
 }
 
 // The whole power at each wavelength.

@@ -8,28 +8,6 @@ ghost use mathlib.Core.Path.{_≡_};
 ghost use Rattle.optics.specs.Surface.{microsurface};
 ghost use Rattle.path.specs.Answer.{outcome, bounce, pathOf};
 
-// The path that an answer carries.
-pub fn path_in(answer: Bounced) -> Path
-    ensures { λ r. ⌜ r ≡ pathOf (outcome answer) ⌝ }
-{
-    match answer {
-        Bounced::Refused { why: _, path } => path,
-        Bounced::Lost { shares: _, path } => path,
-        Bounced::Reflected {
-            wi: _,
-            density: _,
-            shares: _,
-            path,
-        } => path,
-        Bounced::Passed {
-            wi: _,
-            density: _,
-            shares: _,
-            path,
-        } => path,
-    }
-}
-
 // A bounce of the caller's path, which is then the path that the answer carries: the same as before
 // if the bounce is refused.
 pub fn bounce_on(path: &mut Path, surface: Surface, eta: &[f64], k: &[f64], b: Bounce) -> Bounced
@@ -37,6 +15,6 @@ pub fn bounce_on(path: &mut Path, surface: Surface, eta: &[f64], k: &[f64], b: B
 {
     let before = *path;
     let answer = bsdf::bounce(before, surface, eta, k, b);
-    *path = path_in(answer);
+    *path = answer.path();
     answer
 }

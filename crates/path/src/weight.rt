@@ -8,7 +8,7 @@ ghost use mathlib.Core.Bool.{cond};
 ghost use Rattle.numbers.specs.Float.{f0};
 ghost use Rattle.optics.specs.Facets.{lambda};
 ghost use Rattle.path.specs.Path.{each2};
-ghost use Rattle.path.specs.Bounce.{shadowing, metalShare, metalFilter, weight};
+ghost use Rattle.path.specs.Bounce.{shadowing, metalShare, metalFilter, weight, weightsOf};
 
 // The weights of light that is lost.
 pub const LOST: Color = Color {
@@ -74,7 +74,7 @@ fn weight(wl: f64, filter: f64, q: f64) -> f64
 
 // The weights at four wavelengths, from the filter of the branch that was taken.
 pub fn weights(lambda: Color, filter: Color, q: f64) -> Color
-    ensures { λ r. ⌜ r ≡ each2 (λ wl x. weight wl x q) lambda filter ⌝ }
+    ensures { λ r. ⌜ r ≡ weightsOf lambda filter q ⌝ }
 {
     Color {
         s0: weight(lambda.s0, filter.s0, q),

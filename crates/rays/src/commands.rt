@@ -17,7 +17,6 @@ use path::records::Density;
 use path::records::Path;
 use path::records::Shares;
 use path::records::Started;
-use path::thin;
 ghost use Prim.Native.Nat.{_≤_};
 
 // ---- answers
@@ -252,7 +251,7 @@ fn bounce_on(
     }
     let surface = store::surface(place, kinds, s);
     let answer = bsdf::bounce(before, surface, store::eta(place), store::k(place), b);
-    store::keep_path(paths, p, thin::path_in(answer));
+    store::keep_path(paths, p, answer.path());
     let a = head(out, n, b" bounce ", p);
     bounced(out, a, answer)
 }

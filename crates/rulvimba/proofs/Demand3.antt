@@ -38,7 +38,8 @@ use Rattle.path.specs.Demand3.{ColorF64, SharesHold, DensityHolds, AnswerHolds,
 use Rattle.path.proofs.Demand3.{demand-3}
 use Rattle.path.proofs.Answers.{answers}
 use Rattle.rulvimba.specs.declared.surfaces.SurfaceRecord.{SurfaceRecord}
-use Rattle.rulvimba.specs.Surfaces.{kindOf, kindNumber, surfaceOf, surfaceWith}
+use Rattle.optics.specs.Surface.{kindCode, kindOf}
+use Rattle.rulvimba.specs.Surfaces.{surfaceOf, surfaceWith}
 use Rattle.rulvimba.specs.Paths.{numbersOf, startNumber, pathStarted, pathAfter}
 use Rattle.rulvimba.specs.Demand3.{Laid, Call, stepOf, Calls, done, called, AfterEach, Demand3}
 use Rattle.rulvimba.proofs.UnknownKind.{unknown-checked}
@@ -93,7 +94,7 @@ left xs m b = go (checkBounce p m b)
 
 -- ---- what the record of an answer says of shares and density
 record Handed (kind : Kind) (r : BounceResult) : Type 0 where
-  given : r .number ≡ 0 → r .shares .given ≡ kindNumber kind
+  given : r .number ≡ 0 → r .shares .given ≡ kindCode kind
   shares : r .shares .given ≡ 1 → SharesHold Glass (S.Of (r .shares .reflected) (r .shares .passed))
   density : DensityHolds (D.Finite (r .density .value))
 
@@ -106,8 +107,8 @@ unfolding densityRecord
 density-record (D.Finite x) h = h
 density-record D.NotFinite h = no-density
 
-shares-given : (kind : Kind) (s : Shares) → SharesHold kind s → sharesRecord s .given ≡ kindNumber kind
-unfolding sharesRecord kindNumber
+shares-given : (kind : Kind) (s : Shares) → SharesHold kind s → sharesRecord s .given ≡ kindCode kind
+unfolding sharesRecord kindCode
 shares-given Metal S.None h = refl
 shares-given Metal (S.Of F rest) h = absurd h
 shares-given Glass S.None h = absurd h
@@ -141,8 +142,8 @@ handed kind (B.Reflected wi density shares p) h = record { given = λ _. shares-
 handed kind (B.Passed wi density shares p) h = record { given = λ _. shares-given kind shares (h .0); shares = shares-record kind shares (h .0); density = density-record density (h .1) }
 
 -- ---- the number of the kind, which is 0 or 1 unless the bounce is refused
-kind-kept : (n : ℕ) → n ≤ 1 → kindNumber (kindOf n) ≡ n
-unfolding kindNumber kindOf
+kind-kept : (n : ℕ) → n ≤ 1 → kindCode (kindOf n) ≡ n
+unfolding kindCode kindOf
 kind-kept zero h = refl
 kind-kept (suc zero) h = refl
 kind-kept (suc (suc n)) h = absurd (omega arith)
@@ -151,11 +152,11 @@ unknown-refused : (p : Path) (s : SurfaceRecord) (eta k : List Float) (b : Bounc
 unfolding bounce checkBounce _then_ answered bounceResult
 unknown-refused p s eta k b h = rw (unknown-checked s eta k h)
 
-kind-known : (p : Path) (s : SurfaceRecord) (eta k : List Float) (b : Bounce) → bounceResult (bounce p (surfaceWith s eta k) b) .number ≡ 0 → kindNumber (surfaceOf s .kind) ≡ s .kind
+kind-known : (p : Path) (s : SurfaceRecord) (eta k : List Float) (b : Bounce) → bounceResult (bounce p (surfaceWith s eta k) b) .number ≡ 0 → kindCode (surfaceOf s .kind) ≡ s .kind
 unfolding surfaceOf
 kind-known p s eta k b e = go (leb (s .kind) 1) refl
   where
-    go : (known : Bool) → leb (s .kind) 1 ≡ known → kindNumber (kindOf (s .kind)) ≡ s .kind
+    go : (known : Bool) → leb (s .kind) 1 ≡ known → kindCode (kindOf (s .kind)) ≡ s .kind
     go true t = kind-kept (s .kind) (leb-true _ _ t)
     go false t = let z = unknown-refused p s eta k b (leb-false _ _ t) in absurd (omega arith)
 

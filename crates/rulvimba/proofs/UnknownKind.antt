@@ -6,10 +6,10 @@ use lib.Ieee.{Float, le}
 use borrow.Author.Tests.{lt-leb}
 use Rattle.numbers.specs.Float.{within, decimal}
 use Rattle.numbers.specs.Refusal.{refused, rejected, refuse, _then_, _▷_}
-use Rattle.optics.specs.Surface.{roughnessMin, isRoughness, roughnessHolds, isRoughnessGiven}
+use Rattle.optics.specs.Surface.{kindOf, roughnessMin, isRoughness, roughnessHolds, isRoughnessGiven}
 use Rattle.optics.specs.Checked.{checkSurface, makeSurface}
 use Rattle.rulvimba.specs.declared.surfaces.SurfaceRecord.{SurfaceRecord}
-use Rattle.rulvimba.specs.Surfaces.{kindOf, roughnessOf, surfaceOf, surfaceWith}
+use Rattle.rulvimba.specs.Surfaces.{roughnessOf, surfaceOf, surfaceWith}
 
 pub unknown-checked : (s : SurfaceRecord) (eta k : List Float) → 1 < s .kind → checkSurface (surfaceWith s eta k) ≡ rejected 1
 unfolding checkSurface refuse _then_ surfaceOf roughnessOf roughnessHolds isRoughness within roughnessMin decimal le

@@ -1,29 +1,19 @@
--- Surfaces laid out for C, their kind a number: 0 metal, 1 glass. Definitions only.
+-- Surfaces laid out for C, their kind by its code. Definitions only.
 use Prim.Native.Nat.{ℕ}
 use mathlib.Core.Bool.{cond}
 use mathlib.Core.List.{List}
-use lib.Dec.{eqb, leb}
 use lib.Ieee.{Float, nan}
 use Rattle.numbers.specs.Float.{f0}
 use Rattle.numbers.specs.Vec2.{vec2}
 use Rattle.numbers.specs.Refusal.{Answer, refused, given}
-use Rattle.optics.specs.Surface.{Microsurface, microsurface}
-use Rattle.optics.specs.declared.microfacet.Kind.{Kind}
-use Rattle.optics.specs.declared.microfacet.Kind.the-variants.{Metal, Glass}
+use Rattle.optics.specs.Surface.{Microsurface, microsurface, kindCode, isKindCode, kindOf}
 use Rattle.optics.specs.declared.microfacet.Surface.{Surface}
 use Rattle.rulvimba.specs.declared.surfaces.SurfaceRecord.{SurfaceRecord}
 use Rattle.rulvimba.specs.declared.surfaces.SurfaceResult.{SurfaceResult}
 
-unfoldable pub kindOf : ℕ → Kind
-kindOf n = cond (eqb n 0) Metal Glass
-
-unfoldable pub kindNumber : Kind → ℕ
-kindNumber Metal = 0
-kindNumber Glass = 1
-
 -- a kind that is neither has a roughness that no check accepts, so that its surface is refused as 1
 unfoldable pub roughnessOf : ℕ → Float → Float
-roughnessOf kind a = cond (leb kind 1) a nan
+roughnessOf kind a = cond (isKindCode kind) a nan
 
 unfoldable pub surfaceOf : SurfaceRecord → Surface
 surfaceOf s = record {
@@ -36,7 +26,7 @@ abbrev pub surfaceWith : SurfaceRecord → List Float → List Float → Microsu
 surfaceWith s eta k = microsurface (surfaceOf s) eta k
 
 unfoldable pub surfaceRecord : Surface → SurfaceRecord
-surfaceRecord s = record { kind = kindNumber (s .kind); roughness = s .roughness }
+surfaceRecord s = record { kind = kindCode (s .kind); roughness = s .roughness }
 
 -- 01's number and zeros, or 0 and the surface
 unfoldable pub surfaceResult : Answer Surface → SurfaceResult

@@ -1,16 +1,18 @@
-// Surfaces as records for C, whose kind is a number: 0 metal, 1 glass. A kind that is neither is
-// refused as 1, by a roughness that no check accepts.
+// Surfaces as records for C, whose kind is its code. A number that is no kind's is refused as 1, by a
+// roughness that no check accepts.
 use crate::records;
 use numbers::float;
 use numbers::vec2::Vec2;
 use optics::checked;
 use optics::checked::SurfaceAnswer;
 use optics::microfacet::Kind;
+use optics::microfacet::METAL_CODE;
 use optics::microfacet::Surface;
 ghost use mathlib.Core.Path.{_≡_};
+ghost use Rattle.optics.specs.Surface.{kindOf};
 ghost use Rattle.optics.specs.Checked as Checked;
 ghost use Rattle.optics.specs.Checked.{surfaceAnswer};
-ghost use Rattle.rulvimba.specs.Surfaces.{kindOf, kindNumber, roughnessOf, surfaceOf, surfaceRecord, surfaceWith, surfaceResult};
+ghost use Rattle.rulvimba.specs.Surfaces.{roughnessOf, surfaceOf, surfaceRecord, surfaceWith, surfaceResult};
 ghost use Rattle.rulvimba.specs.Results.{checkNumber};
 
 #[repr(C)]
@@ -25,32 +27,10 @@ pub struct SurfaceResult {
     pub surface: SurfaceRecord,
 }
 
-const METAL: u64 = 0;
-
-const GLASS: u64 = 1;
-
-fn kind_of(kind: u64) -> Kind
-    ensures { λ r. ⌜ r ≡ kindOf kind ⌝ }
-{
-    if kind == METAL {
-        return Kind::Metal;
-    }
-    Kind::Glass
-}
-
-fn kind_number(kind: Kind) -> u64
-    ensures { λ r. ⌜ r ≡ kindNumber kind ⌝ }
-{
-    match kind {
-        Kind::Metal => METAL,
-        Kind::Glass => GLASS,
-    }
-}
-
 fn roughness_of(kind: u64, a: f64) -> f64
     ensures { λ r. ⌜ r ≡ roughnessOf kind a ⌝ }
 {
-    if kind <= GLASS {
+    if Kind::is_code(kind) {
         return a;
     }
     float::nan()
@@ -63,7 +43,7 @@ pub fn of_record(surface: SurfaceRecord) -> Surface
     let x = surface.roughness.x;
     let y = surface.roughness.y;
     Surface {
-        kind: kind_of(kind),
+        kind: Kind::of_code(kind),
         roughness: Vec2 {
             x: roughness_of(kind, x),
             y: roughness_of(kind, y),
@@ -79,7 +59,7 @@ fn of_made(answer: SurfaceAnswer) -> SurfaceResult
             SurfaceResult {
                 number: why.number(),
                 surface: SurfaceRecord {
-                    kind: METAL,
+                    kind: METAL_CODE,
                     roughness: Vec2 { x: 0.0, y: 0.0 },
                 },
             }
@@ -90,7 +70,7 @@ fn of_made(answer: SurfaceAnswer) -> SurfaceResult
             SurfaceResult {
                 number: 0,
                 surface: SurfaceRecord {
-                    kind: kind_number(kind),
+                    kind: kind.code(),
                     roughness: roughness,
                 },
             }
@@ -108,7 +88,7 @@ pub extern "C" fn rulvimba_make_surface(
 ) -> SurfaceResult
     ensures { λ r. ⌜ r ≡ surfaceResult (Checked.makeSurface (kindOf kind) (roughnessOf kind roughness) (now (eta .entry)) (now (k .entry))) ⌝ }
 {
-    of_made(checked::make_surface(kind_of(kind), roughness_of(kind, roughness), eta, k))
+    of_made(checked::make_surface(Kind::of_code(kind), roughness_of(kind, roughness), eta, k))
 }
 
 // The number that the fields of a surface are refused with, or 0.

@@ -19,10 +19,10 @@ returns-2 : tie.Need-returns-2
 unfolding pdf Density.pdf floatAnswer verdict _▷_
 returns-2 c =
     let p1 = c .before .before .before in
-    let p2 = p1 .before .before .before .before in
+    let p2 = p1 .before .before .before in
     let p3 = p2 .before .before .before in
     let p4 = p3 .before .before .before in
-    rw (← p4 .check-surface .ensures, ← p3 .before .before .check-direction .ensures, ← p3 .before .then .ensures, ← p3 .check-direction2 .ensures, ← p2 .before .before .then2 .ensures, ← p2 .before .check-wavelength .ensures, ← p2 .then3 .ensures, p1 .before .before .enum-told .given .1, ← p1 .before .eta-at .ensures, ← p1 .k-at .ensures, ← c .before .pdf .ensures, ← c .finite-only .ensures)
+    rw (← p4 .check-surface .ensures, ← p3 .before .before .check-direction .ensures, ← p3 .before .then .ensures, ← p3 .check-direction2 .ensures, ← p2 .before .before .then2 .ensures, ← p2 .before .check-wavelength .ensures, ← p2 .then3 .ensures, p1 .before .enum-told .given .1, ← p1 .optical-constants .ensures .0, ← p1 .optical-constants .ensures .1, ← c .before .pdf .ensures, ← c .finite-only .ensures)
 
 pub pdf-spec : {M : Type 1} → statement M
 pdf-spec =
@@ -30,4 +30,4 @@ pdf-spec =
     (tie.spec
     (λ c κs. search needs) (λ c κs. search needs) (λ c κs. search needs) (λ c κs. search needs) (λ c κs. search needs) (λ c κs. search needs)
     (λ c κs. search needs) (λ c. search needs) returns (λ c. search needs) (λ c κs. search needs) (λ c κs. search needs) (λ c κs. search needs)
-    (λ c κs. search needs) returns-2)
+    returns-2)

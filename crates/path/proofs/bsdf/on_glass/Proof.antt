@@ -4,13 +4,13 @@ use lib.Ieee.{ofBits}
 use Rattle.optics.specs.Bxdf.{rest, sampled}
 use Rattle.optics.specs.Density.{pdf, pdfOf}
 use Rattle.path.specs.Answer.{onSurface, worked, shares, sharesOn, branchOf, density, outcome}
-use Rattle.path.specs.Bounce.{advanced, lambdaOn, leftOn, scatter, scatterOn, localWo, leadingEta, facet, facetOf, share, weights, weightFrom, filter, fresnelAt, shadowingOn, oneDirection}
+use Rattle.path.specs.Bounce.{advanced, lambdaOn, leftOn, scatter, scatterOn, localWo, leadingEta, facet, facetOf, share, weights, weightsFrom, weightsOf, weightFrom, filter, fresnelAt, shadowingOn, oneDirection}
 use Rattle.path.proofs.Direction.{no-direction, no-weight}
 use Rattle.path.proofs.bsdf.on_glass.Statement.{statement}
 use Rattle.path.proofs.bsdf.on_glass.Tie as tie
 
 returns : tie.Need-returns
-unfolding onSurface lambdaOn leftOn scatter scatterOn localWo leadingEta facet facetOf share fresnelAt shares sharesOn rest advanced weights ofBits
+unfolding onSurface lambdaOn leftOn scatter scatterOn localWo leadingEta facet facetOf share fresnelAt shares sharesOn rest advanced weights weightsFrom weightsOf ofBits
 returns c =
     let at-match = c .before in
     let at-sample-from = at-match .before in
@@ -18,14 +18,13 @@ returns c =
     let at-normal = at-f-at .before in
     let at-to-local = at-normal .before .before in
     let at-new = at-to-local .before in
-    let at-k-at = at-new .before in
-    let at-eta-at = at-k-at .before in
-    let at-leading-sample = at-eta-at .before in
+    let at-constants = at-new .before in
+    let at-leading-sample = at-constants .before in
     let at-left-on-glass = at-leading-sample .before .before in
     let at-pre = at-left-on-glass .before .before .before in
     let leading = at-leading-sample .leading-sample .ensures in
-    let index = at-eta-at .eta-at .ensures in
-    let absorption = at-k-at .k-at .ensures in
+    let index = at-constants .optical-constants .ensures .0 in
+    let absorption = at-constants .optical-constants .ensures .1 in
     let basis = at-new .new .ensures in
     let wo = at-to-local .to-local .ensures in
     let wh = at-normal .normal .ensures in
@@ -58,7 +57,7 @@ returns c =
     )
 
 returns-2 : tie.Need-returns-2
-unfolding onSurface lambdaOn leftOn scatter scatterOn localWo leadingEta facet facetOf share fresnelAt shares sharesOn rest advanced weights ofBits worked weightFrom branchOf density pdf pdfOf filter shadowingOn oneDirection outcome sampled
+unfolding onSurface lambdaOn leftOn scatter scatterOn localWo leadingEta facet facetOf share fresnelAt shares sharesOn rest advanced weights weightsFrom weightsOf ofBits worked weightFrom branchOf density pdf pdfOf filter shadowingOn oneDirection outcome sampled
 returns-2 c =
     let at-weights = c .before in
     let at-if1 = at-weights .before in
@@ -71,14 +70,13 @@ returns-2 c =
     let at-normal = at-f-at .before in
     let at-to-local = at-normal .before .before in
     let at-new = at-to-local .before in
-    let at-k-at = at-new .before in
-    let at-eta-at = at-k-at .before in
-    let at-leading-sample = at-eta-at .before in
+    let at-constants = at-new .before in
+    let at-leading-sample = at-constants .before in
     let at-left-on-glass = at-leading-sample .before .before in
     let at-pre = at-left-on-glass .before .before .before in
     let leading = at-leading-sample .leading-sample .ensures in
-    let index = at-eta-at .eta-at .ensures in
-    let absorption = at-k-at .k-at .ensures in
+    let index = at-constants .optical-constants .ensures .0 in
+    let absorption = at-constants .optical-constants .ensures .1 in
     let basis = at-new .new .ensures in
     let wo = at-to-local .to-local .ensures in
     let wh = at-normal .normal .ensures in
@@ -112,7 +110,7 @@ returns-2 c =
     )
 
 returns-3 : tie.Need-returns-3
-unfolding onSurface lambdaOn leftOn scatter scatterOn localWo leadingEta facet facetOf share fresnelAt shares sharesOn rest advanced weights ofBits worked weightFrom branchOf density pdf pdfOf filter shadowingOn oneDirection outcome sampled
+unfolding onSurface lambdaOn leftOn scatter scatterOn localWo leadingEta facet facetOf share fresnelAt shares sharesOn rest advanced weights weightsFrom weightsOf ofBits worked weightFrom branchOf density pdf pdfOf filter shadowingOn oneDirection outcome sampled
 returns-3 c =
     let at-weights2 = c .before in
     let at-if1 = at-weights2 .before in
@@ -125,14 +123,13 @@ returns-3 c =
     let at-normal = at-f-at .before in
     let at-to-local = at-normal .before .before in
     let at-new = at-to-local .before in
-    let at-k-at = at-new .before in
-    let at-eta-at = at-k-at .before in
-    let at-leading-sample = at-eta-at .before in
+    let at-constants = at-new .before in
+    let at-leading-sample = at-constants .before in
     let at-left-on-glass = at-leading-sample .before .before in
     let at-pre = at-left-on-glass .before .before .before in
     let leading = at-leading-sample .leading-sample .ensures in
-    let index = at-eta-at .eta-at .ensures in
-    let absorption = at-k-at .k-at .ensures in
+    let index = at-constants .optical-constants .ensures .0 in
+    let absorption = at-constants .optical-constants .ensures .1 in
     let basis = at-new .new .ensures in
     let wo = at-to-local .to-local .ensures in
     let wh = at-normal .normal .ensures in
@@ -169,6 +166,6 @@ pub on-glass-spec : {M : Type 1} → statement M
 on-glass-spec =
     tie.close
     (tie.spec (λ c κs. search needs) (λ c κs. search needs) (λ c κs. search needs) (λ c κs. search needs) (λ c κs. search needs)
-    (λ c κs. search needs) (λ c κs. search needs) (λ c κs. search needs) (λ c κs. search needs) (λ c. search needs) (λ c κs. search needs) returns
+    (λ c κs. search needs) (λ c κs. search needs) (λ c κs. search needs) (λ c. search needs) (λ c κs. search needs) returns
     (λ c κs. search needs) (λ c κs. search needs) (λ c κs. search needs) (λ c κs. search needs) (λ c κs. search needs) returns-2
     (λ c κs. search needs) (λ c κs. search needs) returns-3)

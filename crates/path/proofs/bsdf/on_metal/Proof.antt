@@ -4,20 +4,20 @@ use Rattle.optics.specs.Bxdf.{sampled}
 use Rattle.optics.specs.Density.{pdf, pdfOf}
 use Rattle.optics.specs.Fresnel.{f}
 use Rattle.path.specs.Answer.{onSurface, worked, shares, sharesOn, branchOf, density, outcome}
-use Rattle.path.specs.Bounce.{advanced, lambdaOn, leftOn, scatter, scatterOn, localWo, facet, facetOf, weights, weightFrom, filter, fresnelAt, shadowingOn, oneDirection}
+use Rattle.path.specs.Bounce.{advanced, lambdaOn, leftOn, scatter, scatterOn, localWo, facet, facetOf, weights, weightsFrom, weightsOf, weightFrom, filter, fresnelAt, shadowingOn, oneDirection}
 use Rattle.path.proofs.Direction.{no-direction, no-weight, metal-reflects}
 use Rattle.path.proofs.bsdf.on_metal.Statement.{statement}
 use Rattle.path.proofs.bsdf.on_metal.Tie as tie
 
 returns : tie.Need-returns
-unfolding onSurface lambdaOn leftOn scatter scatterOn localWo facet facetOf shares sharesOn advanced weights worked weightFrom
+unfolding onSurface lambdaOn leftOn scatter scatterOn localWo facet facetOf shares sharesOn advanced weights weightsFrom weightsOf worked weightFrom
 returns c =
     let at-if1 = c .before in
     let at-pre = at-if1 .before .before .before in
     rw (at-pre .pre, at-if1 .if1 .taken, ← c .lost .ensures)
 
 returns-2 : tie.Need-returns-2
-unfolding onSurface lambdaOn leftOn scatter scatterOn localWo facet facetOf shares sharesOn advanced weights
+unfolding onSurface lambdaOn leftOn scatter scatterOn localWo facet facetOf shares sharesOn advanced weights weightsFrom weightsOf
 returns-2 c =
     let at-match = c .before in
     let at-sample-from = at-match .before in
@@ -43,7 +43,7 @@ returns-2 c =
     )
 
 returns-3 : tie.Need-returns-3
-unfolding onSurface lambdaOn leftOn scatter scatterOn localWo facet facetOf shares sharesOn advanced weights worked weightFrom branchOf density pdf pdfOf filter fresnelAt shadowingOn oneDirection outcome sampled f
+unfolding onSurface lambdaOn leftOn scatter scatterOn localWo facet facetOf shares sharesOn advanced weights weightsFrom weightsOf worked weightFrom branchOf density pdf pdfOf filter fresnelAt shadowingOn oneDirection outcome sampled f
 returns-3 c =
     let at-weights = c .before in
     let at-density-of = at-weights .before in

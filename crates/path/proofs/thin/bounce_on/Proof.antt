@@ -1,6 +1,6 @@
 -- `thin::bounce_on` meets its contract: a walk of its MIR, by hand. The path's borrow is opened and the path copied out; `bounce` answers by value;
--- the path that the answer carries, which `path_in` takes out, is stored over the old one; and the borrow is closed at it.
--- All that the proof knows of `bounce` and of `path_in` is that each meets its contract. The borrow stays open over both calls, as neither is passed it.
+-- the path that the answer carries, which `path` takes out, is stored over the old one; and the borrow is closed at it.
+-- All that the proof knows of `bounce` and of `path` is that each meets its contract. The borrow stays open over both calls, as neither is passed it.
 -- A spectrum is a `&[f64]`, so what it owns is had twice: one copy goes to `bounce`, the other is kept for the exit.
 -- The path, the surface, the bounce and the answer are plain data: what they own is made anew of their relations wherever it is asked.
 -- Assumes nothing.
@@ -63,10 +63,10 @@ use Rattle.path.proofs.bsdf.bounce as by-value
 use Rattle.path.proofs.bsdf.bounce.Symbol as by-value-def
 use Rattle.path.proofs.bsdf.bounce.Symbol.{name as #bounce}
 use Rattle.path.proofs.bsdf.bounce.Met as by-value-thm
-use Rattle.path.proofs.thin.path_in as path-in
-use Rattle.path.proofs.thin.path_in.Symbol as path-in-def
-use Rattle.path.proofs.thin.path_in.Symbol.{name as #path-in}
-use Rattle.path.proofs.thin.path_in.Met as path-in-thm
+use Rattle.path.proofs.records.Bounced.path as carried-path
+use Rattle.path.proofs.records.Bounced.path.Symbol as path-def
+use Rattle.path.proofs.records.Bounced.path.Symbol.{name as #path}
+use Rattle.path.proofs.records.Bounced.path.Met as path-thm
 use Rattle.path.proofs.thin.bounce_on.Key.{name as #bounce-on}
 use Rattle.path.proofs.thin.bounce_on as on
 use Rattle.path.proofs.thin.bounce_on.Statement as stated
@@ -107,8 +107,8 @@ module _ {M : Type 1} (𝓤 : URA M) (H : Heap 𝓤) (A : Atoms 𝓤) (at-mem : 
   abbrev ByValue : Contract 𝓤
   ByValue = tripleOf 𝓤 H A by-value.signature (by-value.spec 𝓤 H A at-mem run)
 
-  abbrev PathIn : Contract 𝓤
-  PathIn = tripleOf 𝓤 H A path-in.signature (path-in.spec 𝓤 H A at-mem run)
+  abbrev PathOf : Contract 𝓤
+  PathOf = tripleOf 𝓤 H A carried-path.signature (carried-path.spec 𝓤 H A at-mem run)
 
 -- what the relation of plain data gives: that the machine value has its MIR type, and what is owned
 module _ {M : Type 1} (𝓤 : URA M) (H : Heap 𝓤) (A : Atoms 𝓤) (W : Given 𝓤 H A) where
@@ -232,24 +232,24 @@ module _ {M : Type 1} (𝓤 : URA M) (H : Heap 𝓤) (A : Atoms 𝓤) (W : Given
     abbrev after-bounce : Val → Item 𝓤
     after-bounce u = later (some (λ (r : Bounced). (Tokens ⊛ ‵ (R.the-row .own r (u ∷ []))) ⊛ raw (bounce-ensures r)))
 
-    -- the call of `path_in` at the answer r, whose machine value is u: likewise
-    abbrev to-path-in : Bounced → Val → PathIn 𝓤 H A at-mem run .Ghost
-    to-path-in r u = ((tt, tt, tt, (r, tt), (u ∷ [], tt)), tt)
+    -- the call of `path` at the answer r, whose machine value is u: likewise
+    abbrev to-path : Bounced → Val → PathOf 𝓤 H A at-mem run .Ghost
+    to-path r u = ((tt, tt, tt, (r, tt), (u ∷ [], tt)), tt)
 
-    asks-path-in : (r : Bounced) (u : Val) → ent 𝓤 (sem 𝓤 H A (R.the-row .own r (u ∷ []))) (PathIn 𝓤 H A at-mem run .pre (to-path-in r u))
-    asks-path-in r u = qed W (‵ (R.the-row .own r (u ∷ [])) ∷ []) ∵ nothing ! $ move ! (1 ∷ 0 ∷ []) $ join ! $ nothing ! $ join ! $ frame ! $ done !
+    asks-path : (r : Bounced) (u : Val) → ent 𝓤 (sem 𝓤 H A (R.the-row .own r (u ∷ []))) (PathOf 𝓤 H A at-mem run .pre (to-path r u))
+    asks-path r u = qed W (‵ (R.the-row .own r (u ∷ [])) ∷ []) ∵ nothing ! $ move ! (1 ∷ 0 ∷ []) $ join ! $ nothing ! $ join ! $ frame ! $ done !
 
-    abbrev path-in-ensures : Bounced → Path → SProp 𝓤
-    path-in-ensures r p′ = ensured 𝓤 H A path-in.ended (path-in.clauses 𝓤 H A at-mem run) tt (r, tt) tt p′
+    abbrev path-ensures : Bounced → Path → SProp 𝓤
+    path-ensures r p′ = ensured 𝓤 H A carried-path.ended (carried-path.clauses 𝓤 H A at-mem run) tt (r, tt) tt p′
 
-    says-path-in : (r : Bounced) (p′ : Path) → ent 𝓤 (path-in-ensures r p′) (fact 𝓤 (Carried r p′))
-    says-path-in r p′ = exE 𝓤 _ (λ ws. snd∗ 𝓤 (sem 𝓤 H A (lasts path-in.ended tt (r, tt) ws)) (fact 𝓤 (Carried r p′)))
+    says-path : (r : Bounced) (p′ : Path) → ent 𝓤 (path-ensures r p′) (fact 𝓤 (Carried r p′))
+    says-path r p′ = exE 𝓤 _ (λ ws. snd∗ 𝓤 (sem 𝓤 H A (lasts carried-path.ended tt (r, tt) ws)) (fact 𝓤 (Carried r p′)))
 
-    abbrev after-path-in : Bounced → Val → Item 𝓤
-    after-path-in r v = later (some (λ (p′ : Path). (‵ ftrue ⊛ ‵ (P.the-row .own p′ (v ∷ []))) ⊛ raw (path-in-ensures r p′)))
+    abbrev after-path : Bounced → Val → Item 𝓤
+    after-path r v = later (some (λ (p′ : Path). (‵ ftrue ⊛ ‵ (P.the-row .own p′ (v ∷ []))) ⊛ raw (path-ensures r p′)))
 
     module _ (C : Calls 𝓤 H) (Λ : Loops 𝓤 H) (fm : FmC 𝓤 H (W .laws) C)
-        (known-bounce : Triple 𝓤 (C #bounce) (ByValue 𝓤 H A at-mem run)) (known-path-in : Triple 𝓤 (C #path-in) (PathIn 𝓤 H A at-mem run))
+        (known-bounce : Triple 𝓤 (C #bounce) (ByValue 𝓤 H A at-mem run)) (known-path : Triple 𝓤 (C #path) (PathOf 𝓤 H A at-mem run))
         (is-eta : Is (ShrSlice (named 1) (κs .1 .0) f64) eta (spectrum-val eta ∷ []))
         (is-k : Is (ShrSlice (named 2) (κs .1 .1 .0) f64) k (spectrum-val k ∷ [])) where
       abbrev passed : List Val
@@ -286,11 +286,11 @@ module _ {M : Type 1} (𝓤 : URA M) (H : Heap 𝓤) (A : Atoms 𝓤) (W : Given
           split ! $ move ! (1 ∷ []) $ facts ! R.the-row (Is R.the-row) (shows 𝓤 H A R.the-row) r (u ∷ []) (λ is-r.
           -- [the tokens; eta; k; the path's cell; the open borrow; obs; auth; room for _8; …; room for _7; …; the locals from _6 down]
           land ! (from ! (stop !)) (init ! 9 refl (answer-typed 𝓤 H A W r u is-r)) $
-          -- *path = path_in(answer);
-          owned ! R.the-row (Is R.the-row) (answer-made 𝓤 H A W) r _ is-r $ use1 W (raw (PathIn 𝓤 H A at-mem run .pre (to-path-in r u))) (asks-path-in r u) $
-          calls-at ! fm (PathIn 𝓤 H A at-mem run) known-path-in (to-path-in r u) (and-then ! (load ! (from ! (stop !)) (look ! 10 refl)) (no-more !)) (λ v.
-          use1 W (after-path-in r v) (id⊢ 𝓤 _) $ await ! tt $ pick ! (λ p′.
-          split ! $ move ! (1 ∷ []) $ use1 W (raw (fact 𝓤 (Carried r p′))) (says-path-in r p′) $ heard ! (Carried r p′) (λ carried.
+          -- *path = answer.path();
+          owned ! R.the-row (Is R.the-row) (answer-made 𝓤 H A W) r _ is-r $ use1 W (raw (PathOf 𝓤 H A at-mem run .pre (to-path r u))) (asks-path r u) $
+          calls-at ! fm (PathOf 𝓤 H A at-mem run) known-path (to-path r u) (and-then ! (load ! (from ! (stop !)) (look ! 10 refl)) (no-more !)) (λ v.
+          use1 W (after-path r v) (id⊢ 𝓤 _) $ await ! tt $ pick ! (λ p′.
+          split ! $ move ! (1 ∷ []) $ use1 W (raw (fact 𝓤 (Carried r p′))) (says-path r p′) $ heard ! (Carried r p′) (λ carried.
           split ! $ drop ! $ facts ! P.the-row (Is P.the-row) (shows 𝓤 H A P.the-row) p′ (v ∷ []) (λ is-p′.
           land ! (from ! (stop !)) (init ! 7 refl (path-typed 𝓤 H A W p′ v is-p′)) $
           assigns ! (of-opd ! (load ! (from ! (stop !)) (look ! 7 refl)))
@@ -311,9 +311,9 @@ module _ {M : Type 1} (𝓤 : URA M) (H : Heap 𝓤) (A : Atoms 𝓤) (W : Given
 
 module _ {M : Type 1} (𝓤 : URA M) (H : Heap 𝓤) (A : Atoms 𝓤) (W : Given 𝓤 H A) (at-mem : Memory → SProp 𝓤) (run : Routine → Fun 𝓤) where
   bounce-on-walks : (C : Calls 𝓤 H) (Λ : Loops 𝓤 H) → FmC 𝓤 H (W .laws) C
-      → Triple 𝓤 (C #bounce) (ByValue 𝓤 H A at-mem run) → Triple 𝓤 (C #path-in) (PathIn 𝓤 H A at-mem run)
+      → Triple 𝓤 (C #bounce) (ByValue 𝓤 H A at-mem run) → Triple 𝓤 (C #path) (PathOf 𝓤 H A at-mem run)
       → Walks 𝓤 H A on.ended stayed (WpFn 𝓤 H C Λ code.function) (on.clauses 𝓤 H A at-mem run)
-  bounce-on-walks C Λ fm known-bounce known-path-in =
+  bounce-on-walks C Λ fm known-bounce known-path =
       walked 𝓤 H A on.ended stayed (on.clauses 𝓤 H A at-mem run) (WpFn 𝓤 H C Λ code.function)
       (λ κs. (ptr-vals, (LL.vals S.the-type S′.the-laws, (slice-vals, (slice-vals, (LL.vals B.the-type B′.the-laws, tt))))))
       (λ κs.
@@ -324,7 +324,7 @@ module _ {M : Type 1} (𝓤 : URA M) (H : Heap 𝓤) (A : Atoms 𝓤) (W : Given
       (λ κs qs bounds a g are.
       via 𝓤 _ (fst∗ 𝓤 _ (emp 𝓤))
       (via 𝓤 _ (enters 𝓤 H A W at-mem run κs qs a)
-      (walk 𝓤 H A W at-mem run κs qs a (are .1 .0) (are .1 .1 .1 .1 .0) C Λ fm known-bounce known-path-in (are .1 .1 .0) (are .1 .1 .1 .0))))
+      (walk 𝓤 H A W at-mem run κs qs a (are .1 .0) (are .1 .1 .1 .1 .0) C Λ fm known-bounce known-path (are .1 .1 .0) (are .1 .1 .1 .0))))
 
   goes : AllGo 𝓤 H A W 3 (on.signature .params) (on.ended .kept) stayed
   goes =
@@ -336,12 +336,12 @@ module _ {M : Type 1} (𝓤 : URA M) (H : Heap 𝓤) (A : Atoms 𝓤) (W : Given
       (path-goes, (surface-goes, (eta-goes, (k-goes, (bounce-goes, tt)))))
 
 bounce-on-meets : {M : Type 1} (𝓤 : URA M) (H : Heap 𝓤) (A : Atoms 𝓤) (W : Given 𝓤 H A) (at-mem : Memory → SProp 𝓤) (run : Routine → Fun 𝓤) (𝓣 : Tables 𝓤 H)
-    → Triple 𝓤 (𝓣 .C #bounce) (ByValue 𝓤 H A at-mem run) → Triple 𝓤 (𝓣 .C #path-in) (PathIn 𝓤 H A at-mem run)
+    → Triple 𝓤 (𝓣 .C #bounce) (ByValue 𝓤 H A at-mem run) → Triple 𝓤 (𝓣 .C #path) (PathOf 𝓤 H A at-mem run)
     → Meets 𝓤 H A on.signature (WpFn 𝓤 H (𝓣 .C) (𝓣 .Λ) code.function) (on.spec 𝓤 H A at-mem run)
-bounce-on-meets 𝓤 H A W at-mem run 𝓣 known-bounce known-path-in =
+bounce-on-meets 𝓤 H A W at-mem run 𝓣 known-bounce known-path =
     walk-meets 𝓤 H A on.ended stayed W (goes 𝓤 H A W at-mem run) (on.clauses 𝓤 H A at-mem run)
     (WpFn 𝓤 H (𝓣 .C) (𝓣 .Λ) code.function) (WpFn-mono 𝓤 H (W .laws) 𝓣 code.function)
-    (bounce-on-walks 𝓤 H A W at-mem run (𝓣 .C) (𝓣 .Λ) (fmOf 𝓤 H (W .laws) 𝓣) known-bounce known-path-in)
+    (bounce-on-walks 𝓤 H A W at-mem run (𝓣 .C) (𝓣 .Λ) (fmOf 𝓤 H (W .laws) 𝓣) known-bounce known-path)
 
 pub bounce-on-spec : {M : Type 1} → stated.statement M
 unfolding code.routine tablesOf
@@ -350,4 +350,4 @@ bounce-on-spec 𝓤 H 𝓜 𝓖 𝓡 =
     (tables 𝓤 H 𝓜 𝓡 code.env .C) (tables 𝓤 H 𝓜 𝓡 code.env .Λ) #bounce-on code.function (code.unfolded 𝓤 H 𝓜 𝓡)
     (bounce-on-meets 𝓤 H (𝓖 .A) (givenOf 𝓤 H 𝓜 𝓖) (𝓜 .mem) (𝓡 .run) (tablesOf 𝓤 H 𝓜 (tables 𝓤 H 𝓜 𝓡 code.env))
     (cited 𝓤 H (ByValue 𝓤 H (𝓖 .A) (𝓜 .mem) (𝓡 .run)) 𝓜 𝓡 code.env #bounce by-value-def.routine code.calls-path·bsdf·bounce (by-value-thm.met 𝓤 H 𝓜 𝓖 𝓡))
-    (cited 𝓤 H (PathIn 𝓤 H (𝓖 .A) (𝓜 .mem) (𝓡 .run)) 𝓜 𝓡 code.env #path-in path-in-def.routine code.calls-path·thin·path-in (path-in-thm.met 𝓤 H 𝓜 𝓖 𝓡)))
+    (cited 𝓤 H (PathOf 𝓤 H (𝓖 .A) (𝓜 .mem) (𝓡 .run)) 𝓜 𝓡 code.env #path path-def.routine code.calls-path·records·Bounced·path (path-thm.met 𝓤 H 𝓜 𝓖 𝓡)))

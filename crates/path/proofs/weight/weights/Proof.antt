@@ -1,9 +1,11 @@
 -- `path::weight::weights` meets its contract: the calls give what their contracts promise, and the definition is read in the same order.
 use borrow.Author.Needs.{needs}
+use Rattle.path.specs.Bounce.{weightsOf}
 use Rattle.path.proofs.weight.weights.Statement.{statement}
 use Rattle.path.proofs.weight.weights.Tie as tie
 
 returns : tie.Need-returns
+unfolding weightsOf
 returns c =
     let at-weight3 = c .before in
     let at-weight2 = at-weight3 .before in

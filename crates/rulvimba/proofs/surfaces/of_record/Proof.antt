@@ -6,7 +6,7 @@ use Rattle.rulvimba.proofs.surfaces.of_record.Tie as tie
 
 returns : tie.Need-returns
 unfolding surfaceOf
-returns c = rw (← c .before .before .kind-of .ensures, ← c .before .roughness-of .ensures, ← c .roughness-of2 .ensures)
+returns c = rw (← c .before .before .of-code .ensures, ← c .before .roughness-of .ensures, ← c .roughness-of2 .ensures)
 
 pub of-record-spec : {M : Type 1} → statement M
 of-record-spec = tie.close (tie.spec (λ c κs. search needs) (λ c κs. search needs) (λ c κs. search needs) returns)

@@ -1,5 +1,4 @@
--- `rulvimba::surfaces::roughness_of` meets its contract: by the test of the kind's number.
-use borrow.Author.Tests.{le-leb, lt-leb}
+-- `rulvimba::surfaces::roughness_of` meets its contract: by the test of the kind's code.
 use borrow.Author.Needs.{needs}
 use Rattle.rulvimba.specs.Surfaces.{roughnessOf}
 use Rattle.rulvimba.proofs.surfaces.roughness_of.Statement.{statement}
@@ -7,11 +6,11 @@ use Rattle.rulvimba.proofs.surfaces.roughness_of.Tie as tie
 
 returns : tie.Need-returns
 unfolding roughnessOf
-returns c = rw (le-leb _ _ (c .if1 .taken))
+returns c = rw (← c .before .is-code .ensures, c .if1 .taken)
 
 returns-2 : tie.Need-returns-2
 unfolding roughnessOf
-returns-2 c = rw (lt-leb _ _ (c .before .if1 .left), ← c .nan .ensures)
+returns-2 c = rw (← c .before .before .is-code .ensures, c .before .if1 .left, ← c .nan .ensures)
 
 pub roughness-of-spec : {M : Type 1} → statement M
-roughness-of-spec = tie.close (tie.spec returns (λ c κs. search needs) returns-2)
+roughness-of-spec = tie.close (tie.spec (λ c κs. search needs) returns (λ c κs. search needs) returns-2)
