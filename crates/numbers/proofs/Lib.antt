@@ -1,25 +1,3 @@
--- The laws, in the order in which they build on each other.
+-- The laws, in rooms: those of a source module stand in its folder, beside the proofs of its functions; those of rounding in Rounding.
 pub mod Rounding
-pub mod Units
-pub mod NonNegative
-pub mod Shares
-pub mod Monotone
-pub mod Error
-pub mod SignedPoly
-pub mod Expression
-pub mod WholeRoot
-pub mod RootDigits
-pub mod RootBits
-pub mod RootGuess
-pub mod RootOrZero
-pub mod NearestRoot
-pub mod Checks
 pub mod Samples
-pub mod FloatBits
-pub mod Every
-pub mod Ceiling
-pub mod Direction
-pub mod LocalBasis
-pub mod UnitVector
-pub mod GridPoint
-pub mod Interpolation

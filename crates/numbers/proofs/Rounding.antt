@@ -5,6 +5,16 @@
 -- and is off by half a unit of the last digit at most (`rnd-err`), so by n / 2 ^ p
 -- where all p digits are in use (`rnd-rel`, `rnd-all`, `rnd-whole`).
 -- All of it rests on two facts of `closest`, the nearest whole number: it keeps the order, and it is the number itself at a whole one.
+-- Below it: values in units, the order and the operations by units, errors, and bounds computed for whole expressions, in the order in which they build on each other.
+pub mod Units
+pub mod NonNegative
+pub mod Shares
+pub mod Monotone
+pub mod Error
+pub mod SignedPoly
+pub mod Expression
+pub mod Sizes
+pub mod Signs
 use mathlib.Core.Path.{_≡_, sym, ap, _∙_, subst}
 use mathlib.Core.Logic.{_⊎_, inl, inr}
 use Prim.Native.Nat.{ℕ, _+_, _-_, _*_, _/_, _%_, _^_, _≤_, _<_, compare, Ordering, Ordering·lt, Ordering·eq, Ordering·gt}

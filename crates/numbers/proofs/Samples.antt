@@ -10,17 +10,17 @@ use Rattle.numbers.specs.Float.{decimal, f0, f1, f2, within}
 use Rattle.numbers.specs.SquareRoot.{squareRoot}
 use Rattle.numbers.specs.DenseSpectrum.{isTable, entry, allFinite, sampleOne, sampleOneAt, upperPoint, upperLambda, upperWeight, ceiling, interpolate, isLookupWavelength, isWavelength}
 use Rattle.numbers.specs.Refusal.{refuse, _then_, refused, given, _▷_}
-use Rattle.numbers.specs.Checked.{checkTable, checkLookup, lookup}
+use Rattle.numbers.specs.Checked.{tableHolds, checkTable, checkLookup, lookup}
 use Rattle.numbers.specs.Samples.{Entries, Samples}
 
 -- ---- a lookup of entries that it accepts, at a wavelength inside the range and outside it
 inside : (values : List Float) (lambda x : Float) → Entries values → isLookupWavelength lambda ≡ true → sampleOne values lambda ≡ x → lookup values lambda ≡ given x
 unfolding lookup checkTable checkLookup refuse _then_ _▷_
-inside values lambda x h e s = rw (is-true (isTable values && allFinite values) h, e, s)
+inside values lambda x h e s = rw (is-true (tableHolds values) h, e, s)
 
 outside : (values : List Float) (lambda : Float) → Entries values → isLookupWavelength lambda ≡ false → lookup values lambda ≡ refused 4
 unfolding lookup checkTable checkLookup refuse _then_ _▷_
-outside values lambda h e = rw (is-true (isTable values && allFinite values) h, e)
+outside values lambda h e = rw (is-true (tableHolds values) h, e)
 
 pub samples : Samples
 unfolding sampleOne sampleOneAt upperPoint upperLambda upperWeight ceiling interpolate isLookupWavelength isWavelength within decimal squareRoot add sub mul div lt le eq ofInt toUnsigned

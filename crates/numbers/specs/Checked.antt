@@ -42,8 +42,11 @@ unfoldable pub checkDirection : Vec3 → Verdict
 checkDirection w = refuse 5 (isDirection w)
 
 -- a spectrum's values: 2 for a length other than the table's, or an entry that isn't finite
+unfoldable pub tableHolds : List Float → Bool
+tableHolds values = isTable values && allFinite values
+
 unfoldable pub checkTable : List Float → Verdict
-checkTable values = refuse 2 (isTable values && allFinite values)
+checkTable values = refuse 2 (tableHolds values)
 
 -- a wavelength that is not ended: 4
 unfoldable pub checkWavelength : Float → Verdict

@@ -19,7 +19,7 @@ unfoldable pub norm : Complex → Float
 norm z = Root.sqrt (normSqr z)
 
 -- the conjugate
-unfoldable pub co : Complex → Complex
+abbrev pub co : Complex → Complex
 co z = complex (z .Re) (neg (z .Im))
 
 -- Stand-in one: the cosine and the sine of half the angle of z, whose norm is n. cos² (φ/2) = (1 + cos φ)/2 and sin² (φ/2) = (1 - cos φ)/2, where cos φ = a/n.
@@ -35,26 +35,26 @@ sinHalf n z =
 unfoldable pub sqrt : Complex → Complex
 sqrt z = complex (Root.sqrt (norm z) ⊗ cosHalf (norm z) z) (Root.sqrt (norm z) ⊗ sinHalf (norm z) z)
 
--- ---- operators: on two complex numbers, on a complex number and a float, on a float and a complex number
-unfoldable pub add : Complex → Complex → Complex
+-- ---- operators: on two complex numbers, on a complex number and a float, on a float and a complex number. Those with no test are read through everywhere.
+abbrev pub add : Complex → Complex → Complex
 add z w = complex (z .Re ⊕ w .Re) (z .Im ⊕ w .Im)
 
-unfoldable pub floatAdd : Float → Complex → Complex
+abbrev pub floatAdd : Float → Complex → Complex
 floatAdd a w = complex (a ⊕ w .Re) (w .Im)
 
-unfoldable pub sub : Complex → Complex → Complex
+abbrev pub sub : Complex → Complex → Complex
 sub z w = complex (z .Re ⊖ w .Re) (z .Im ⊖ w .Im)
 
-unfoldable pub floatSub : Float → Complex → Complex
+abbrev pub floatSub : Float → Complex → Complex
 floatSub a w = complex (a ⊖ w .Re) (neg (w .Im))
 
-unfoldable pub mul : Complex → Complex → Complex
+abbrev pub mul : Complex → Complex → Complex
 mul z w = complex (z .Re ⊗ w .Re ⊖ z .Im ⊗ w .Im) (z .Re ⊗ w .Im ⊕ z .Im ⊗ w .Re)
 
-unfoldable pub mulFloat : Complex → Float → Complex
+abbrev pub mulFloat : Complex → Float → Complex
 mulFloat z a = complex (z .Re ⊗ a) (z .Im ⊗ a)
 
-unfoldable pub floatMul : Float → Complex → Complex
+abbrev pub floatMul : Float → Complex → Complex
 floatMul a w = complex (a ⊗ w .Re) (a ⊗ w .Im)
 
 -- a quotient by zero is NaN in both parts

@@ -1,9 +1,9 @@
 -- Operations on binary64 as the formulas write them, and the methods of Rust's `f64` that the model uses (document 01, "Floats and vectors"). Definitions only.
 -- A circled operator is the real operation rounded once, to nearest, ties to even (IEEE 754-2019, 5.4.1; the notation is Knuth's, TAOCP 4.2.2).
-use Prim.Native.Nat.{ℕ, suc}
-use mathlib.Core.Bool.{Bool, true, false, not, _&&_, _||_, cond}
-use lib.IntN.{pos, negsuc}
-use lib.Ieee.{Float, nan, inf, fin, binary64, isNan, lt, le, eq, round}
+use Prim.Native.Nat.{ℕ}
+use mathlib.Core.Bool.{Bool, true, false, _&&_, cond}
+use lib.IntN.{pos}
+use lib.Ieee.{Float, nan, inf, fin, binary64, isNan, lt, le, round}
 use lib.Ieee as Ieee
 
 infixl 60 _⊕_
@@ -92,5 +92,5 @@ isFinite (fin s m e) = true
 unfoldable pub powi2 : Float → Float
 powi2 v = v ⊗ v
 
-unfoldable pub powi5 : Float → Float
+abbrev pub powi5 : Float → Float
 powi5 v = v ⊗ (v ⊗ v ⊗ (v ⊗ v))

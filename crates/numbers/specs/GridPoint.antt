@@ -1,5 +1,5 @@
 -- A lookup in two steps, so that spectra which are read at one wavelength find its place among the grid points once: a form that serves speed alone.
--- Read from that place, a spectrum gives what its lookup gives (`sample-from-point`, proofs/GridPoint.antt). Definitions only.
+-- Read from that place, a spectrum gives what its lookup gives (`sample-from-point`, proofs/dense_spectrum/SampleFrom.antt). Definitions only.
 use Prim.Native.Nat.{_-_}
 use mathlib.Core.Bool.{cond}
 use mathlib.Core.List.{List}

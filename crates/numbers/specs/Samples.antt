@@ -1,20 +1,20 @@
 -- Document 01's measured samples that are to be proved (marked * there), as far as they concern this
 -- crate: one conjunction. Definitions only; it is proved in proofs/Samples.antt.
 use mathlib.Core.Path.{_≡_}
-use mathlib.Core.Bool.{true, false, _&&_}
+use mathlib.Core.Bool.{true, false}
 use mathlib.Core.List.{List, _∷_}
 use lib.IntN.{pos, negsuc}
 use lib.Dec.{T}
 use lib.Ieee.{Float, fin}
 use Rattle.numbers.specs.Float.{f0, f1, f2, decimal}
 use Rattle.numbers.specs.SquareRoot.{sqrt}
-use Rattle.numbers.specs.DenseSpectrum.{isTable, sampleOne, entry, allFinite}
+use Rattle.numbers.specs.DenseSpectrum.{sampleOne, entry}
 use Rattle.numbers.specs.Refusal.{refused, given}
-use Rattle.numbers.specs.Checked.{lookup}
+use Rattle.numbers.specs.Checked.{tableHolds, lookup}
 
 -- entries that a lookup accepts
 abbrev pub Entries : List Float → Type 0
-Entries values = T (isTable values && allFinite values)
+Entries values = T (tableHolds values)
 
 pub record Samples : Type 0 where
   -- entries 1.0, 2.0 first: 360 gives 1.0, 362.5 gives 1.5, 365 gives 2.0

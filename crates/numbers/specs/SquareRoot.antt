@@ -1,6 +1,6 @@
 -- The square root of a float, correctly rounded (IEEE 754-2019, 5.4.1, squareRoot). Definitions only.
 -- First how it is computed; then what it is, `SquareRoot`, which says nothing of the
--- computation. `nearest-root` of proofs/NearestRoot.antt proves that of this.
+-- computation. `nearest-root` of proofs/square_root/NearestRoot.antt proves that of this.
 use mathlib.Core.Path.{_≡_}
 use Prim.Native.Nat.{ℕ, zero, suc, _+_, _*_, _/_, _^_, _<_}
 use mathlib.Core.Bool.{Bool, true, false, cond}

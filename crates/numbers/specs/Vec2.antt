@@ -27,13 +27,13 @@ Y = vec2 f0 f1
 abbrev pub ONE : Vec2
 ONE = vec2 f1 f1
 
-unfoldable pub splat : Float → Vec2
+abbrev pub splat : Float → Vec2
 splat a = vec2 a a
 
-unfoldable pub extend : Vec2 → Float → Vec3
+abbrev pub extend : Vec2 → Float → Vec3
 extend v z = record { x = v .x; y = v .y; z = z }
 
-unfoldable pub dot : Vec2 → Vec2 → Float
+abbrev pub dot : Vec2 → Vec2 → Float
 dot v w = v .x ⊗ w .x ⊕ v .y ⊗ w .y
 
 unfoldable pub abs : Vec2 → Vec2
@@ -45,42 +45,42 @@ min v w = each2 F.min v w
 unfoldable pub max : Vec2 → Vec2 → Vec2
 max v w = each2 F.max v w
 
-unfoldable pub negate : Vec2 → Vec2
+abbrev pub negate : Vec2 → Vec2
 negate v = each neg v
 
--- ---- operators: on two vectors, on a vector and a float, on a float and a vector
-unfoldable pub add : Vec2 → Vec2 → Vec2
+-- ---- operators: on two vectors, on a vector and a float, on a float and a vector. Each is a short name, read through everywhere.
+abbrev pub add : Vec2 → Vec2 → Vec2
 add v w = each2 _⊕_ v w
 
-unfoldable pub sub : Vec2 → Vec2 → Vec2
+abbrev pub sub : Vec2 → Vec2 → Vec2
 sub v w = each2 _⊖_ v w
 
-unfoldable pub mul : Vec2 → Vec2 → Vec2
+abbrev pub mul : Vec2 → Vec2 → Vec2
 mul v w = each2 _⊗_ v w
 
-unfoldable pub div : Vec2 → Vec2 → Vec2
+abbrev pub div : Vec2 → Vec2 → Vec2
 div v w = each2 _⊘_ v w
 
-unfoldable pub addFloat : Vec2 → Float → Vec2
+abbrev pub addFloat : Vec2 → Float → Vec2
 addFloat v a = each (λ x. x ⊕ a) v
 
-unfoldable pub subFloat : Vec2 → Float → Vec2
+abbrev pub subFloat : Vec2 → Float → Vec2
 subFloat v a = each (λ x. x ⊖ a) v
 
-unfoldable pub mulFloat : Vec2 → Float → Vec2
+abbrev pub mulFloat : Vec2 → Float → Vec2
 mulFloat v a = each (λ x. x ⊗ a) v
 
-unfoldable pub divFloat : Vec2 → Float → Vec2
+abbrev pub divFloat : Vec2 → Float → Vec2
 divFloat v a = each (λ x. x ⊘ a) v
 
-unfoldable pub floatAdd : Float → Vec2 → Vec2
+abbrev pub floatAdd : Float → Vec2 → Vec2
 floatAdd a v = each (λ x. a ⊕ x) v
 
-unfoldable pub floatSub : Float → Vec2 → Vec2
+abbrev pub floatSub : Float → Vec2 → Vec2
 floatSub a v = each (λ x. a ⊖ x) v
 
-unfoldable pub floatMul : Float → Vec2 → Vec2
+abbrev pub floatMul : Float → Vec2 → Vec2
 floatMul a v = each (λ x. a ⊗ x) v
 
-unfoldable pub floatDiv : Float → Vec2 → Vec2
+abbrev pub floatDiv : Float → Vec2 → Vec2
 floatDiv a v = each (λ x. a ⊘ x) v

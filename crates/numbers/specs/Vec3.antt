@@ -32,10 +32,10 @@ Z = vec3 f0 f0 f1
 abbrev pub ONE : Vec3
 ONE = vec3 f1 f1 f1
 
-unfoldable pub splat : Float → Vec3
+abbrev pub splat : Float → Vec3
 splat a = vec3 a a a
 
-unfoldable pub truncate : Vec3 → Vec2
+abbrev pub truncate : Vec3 → Vec2
 truncate v = record { x = v .x; y = v .y }
 
 unfoldable pub abs : Vec3 → Vec3
@@ -50,45 +50,46 @@ max v w = each2 F.max v w
 unfoldable pub negate : Vec3 → Vec3
 negate v = each neg v
 
--- ---- operators: on two vectors, on a vector and a float, on a float and a vector
+-- ---- operators: on two vectors, on a vector and a float, on a float and a vector. A short name is read through everywhere;
+-- those whose results are tested or measured afterwards stay folded, so that proofs can name them.
 unfoldable pub add : Vec3 → Vec3 → Vec3
 add v w = each2 _⊕_ v w
 
 unfoldable pub sub : Vec3 → Vec3 → Vec3
 sub v w = each2 _⊖_ v w
 
-unfoldable pub mul : Vec3 → Vec3 → Vec3
+abbrev pub mul : Vec3 → Vec3 → Vec3
 mul v w = each2 _⊗_ v w
 
-unfoldable pub div : Vec3 → Vec3 → Vec3
+abbrev pub div : Vec3 → Vec3 → Vec3
 div v w = each2 _⊘_ v w
 
-unfoldable pub addFloat : Vec3 → Float → Vec3
+abbrev pub addFloat : Vec3 → Float → Vec3
 addFloat v a = each (λ x. x ⊕ a) v
 
-unfoldable pub subFloat : Vec3 → Float → Vec3
+abbrev pub subFloat : Vec3 → Float → Vec3
 subFloat v a = each (λ x. x ⊖ a) v
 
-unfoldable pub mulFloat : Vec3 → Float → Vec3
+abbrev pub mulFloat : Vec3 → Float → Vec3
 mulFloat v a = each (λ x. x ⊗ a) v
 
 unfoldable pub divFloat : Vec3 → Float → Vec3
 divFloat v a = each (λ x. x ⊘ a) v
 
-unfoldable pub floatAdd : Float → Vec3 → Vec3
+abbrev pub floatAdd : Float → Vec3 → Vec3
 floatAdd a v = each (λ x. a ⊕ x) v
 
-unfoldable pub floatSub : Float → Vec3 → Vec3
+abbrev pub floatSub : Float → Vec3 → Vec3
 floatSub a v = each (λ x. a ⊖ x) v
 
 unfoldable pub floatMul : Float → Vec3 → Vec3
 floatMul a v = each (λ x. a ⊗ x) v
 
-unfoldable pub floatDiv : Float → Vec3 → Vec3
+abbrev pub floatDiv : Float → Vec3 → Vec3
 floatDiv a v = each (λ x. a ⊘ x) v
 
 -- ---- products and lengths
-unfoldable pub scale : Vec3 → Float → Vec3
+abbrev pub scale : Vec3 → Float → Vec3
 scale v s = each (λ x. x ⊗ s) v
 
 unfoldable pub dot : Vec3 → Vec3 → Float

@@ -9,10 +9,10 @@ use crate::refusal::refuse;
 use crate::spherical_utils;
 use crate::vec3::Vec3;
 ghost use mathlib.Core.Path.{_≡_};
-ghost use Rattle.numbers.specs.SphericalUtils.{sameHemisphere, cosPhi, sinPhi, cosTheta, sinTheta, tanTheta, cos2Theta, sin2Theta, tan2Theta};
+ghost use Rattle.numbers.specs.SphericalUtils.{cosPhi, sinPhi, cosTheta, sinTheta, tanTheta, cos2Theta, sin2Theta, tan2Theta};
 ghost use Rattle.numbers.specs.Onb.{basis};
 ghost use Rattle.numbers.specs.Refusal.{verdict};
-ghost use Rattle.numbers.specs.Checked.{floatAnswer, boolAnswer, vec3Answer, onbAnswer, checkDirection, checkTable, checkWavelength, checkLookup, ofDirection, lookup, changeToLocal, changeToWorld, hemisphere};
+ghost use Rattle.numbers.specs.Checked.{floatAnswer, boolAnswer, vec3Answer, onbAnswer, checkDirection, tableHolds, checkTable, checkWavelength, checkLookup, ofDirection, lookup, changeToLocal, changeToWorld, hemisphere};
 
 pub enum FloatAnswer {
     Refused(Refusal),
@@ -42,13 +42,16 @@ pub fn check_direction(w: Vec3) -> Check
 }
 
 // The values of a lone lookup: any finite ones.
+fn table_holds(values: &[f64]) -> bool
+    ensures { λ r. ⌜ r ≡ tableHolds (now (values .entry)) ⌝ }
+{
+    dense_spectrum::is_table(values) && dense_spectrum::all_finite(values)
+}
+
 fn check_table(values: &[f64]) -> Check
     ensures { λ r. ⌜ verdict r ≡ checkTable (now (values .entry)) ⌝ }
 {
-    refuse(
-        Refusal::Eta,
-        dense_spectrum::is_table(values) & dense_spectrum::all_finite(values),
-    )
+    refuse(Refusal::Eta, table_holds(values))
 }
 
 // A wavelength that is not ended.

@@ -15,7 +15,7 @@ impl Complex {
     pub fn new(Re: f64, Im: f64) -> Complex
         ensures { λ r. ⌜ r ≡ complex Re Im ⌝ }
     {
-        Complex { Re: Re, Im: Im }
+        Complex { Re, Im }
     }
 
     pub fn from(v: f64) -> Complex

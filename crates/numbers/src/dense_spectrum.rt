@@ -186,8 +186,5 @@ pub fn is_wavelength(lambda: f64) -> bool
 pub fn is_lookup_wavelength(lambda: f64) -> bool
     ensures { λ r. ⌜ r ≡ isLookupWavelength lambda ⌝ }
 {
-    if lambda == 0.0 {
-        return true;
-    }
-    is_wavelength(lambda)
+    lambda == 0.0 || is_wavelength(lambda)
 }

@@ -104,8 +104,5 @@ pub fn powi5(v: f64) -> f64
 pub fn within(lo: f64, hi: f64, x: f64) -> bool
     ensures { λ r. ⌜ r ≡ within lo hi x ⌝ }
 {
-    if lo <= x {
-        return x <= hi;
-    }
-    false
+    lo <= x && x <= hi
 }

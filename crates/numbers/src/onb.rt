@@ -33,7 +33,7 @@ impl Onb {
             z: -w.y,
         };
 
-        Onb { u: u, v: v, w: w }
+        Onb { u, v, w }
     }
 
     // Translate from the ONB to world basis

@@ -78,7 +78,7 @@ fn normal(t: u64) -> Norm
         m = m * 2;
         z += 1;
     }
-    Norm { m: m, z: z }
+    Norm { m, z }
 }
 
 // The root of m * 4 ^ h times 2 ^ -2148, m being of 53 or 54 digits: half of the 54 digits, rounded up.

@@ -23,7 +23,7 @@ impl Vec2 {
     pub fn new(x: f64, y: f64) -> Vec2
         ensures { λ r. ⌜ r ≡ vec2 x y ⌝ }
     {
-        Vec2 { x: x, y: y }
+        Vec2 { x, y }
     }
 
     pub fn splat(v: f64) -> Vec2
@@ -38,7 +38,7 @@ impl Vec2 {
         Vec3 {
             x: self.x,
             y: self.y,
-            z: z,
+            z,
         }
     }
 

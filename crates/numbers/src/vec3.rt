@@ -47,7 +47,7 @@ impl Vec3 {
     pub fn new(x: f64, y: f64, z: f64) -> Vec3
         ensures { λ r. ⌜ r ≡ vec3 x y z ⌝ }
     {
-        Vec3 { x: x, y: y, z: z }
+        Vec3 { x, y, z }
     }
 
     pub fn splat(v: f64) -> Vec3

@@ -1,9 +1,9 @@
 -- The cosine between two directions is the same from either side.
-use Prim.Native.Nat.{ℕ, _*_}
+use Prim.Native.Nat.{_*_}
 use native.Mathlib.Nat.{mul-comm}
 use mathlib.Core.Bool.{Bool, true, false}
 use mathlib.Core.Path.{_≡_, refl}
-use lib.Ieee.{Float, nan, inf, fin, Format, binary64, unlike, round, up, down, mul}
+use lib.Ieee.{Float, nan, inf, fin, Format, binary64, unlike, up, down, mul}
 use Rattle.numbers.specs.Vec3.{dot}
 use Rattle.numbers.specs.declared.vec3.Vec3.{Vec3}
 

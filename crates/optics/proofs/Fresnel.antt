@@ -6,35 +6,29 @@
 use mathlib.Core.Path.{_≡_, refl, sym, ap, _∙_, subst}
 use mathlib.Core.Logic.{inl, inr}
 use mathlib.Core.List.{[], _∷_}
-use mathlib.Core.Bool.{Bool·beq, Bool, true, false, not, _||_, true≢false, cond}
+use mathlib.Core.Bool.{Bool·beq, Bool, true, false, not, _||_, cond}
 use Prim.Native.Nat.{ℕ, zero, suc, _+_, _-_, _*_, _^_, _≤_, _<_, zero-le}
-use native.Mathlib.Nat.{le-trans, le-of-eq, lt-of-le-of-lt, lt-of-lt-of-le, lt-irrefl, not-le-of-lt, mul-le-mul-right, mul-le-mul-left, mul-le-mul, le-of-mul-le-mul-right, mul-pos, mul-comm, mul-assoc, zero-lt-suc, le-of-lt, one-mul}
+use native.Mathlib.Nat.{le-trans, le-of-eq, lt-of-le-of-lt, lt-of-lt-of-le, lt-irrefl, mul-le-mul-right, mul-le-mul-left, mul-le-mul, le-of-mul-le-mul-right, mul-pos, mul-comm, mul-assoc, zero-lt-suc, le-of-lt, one-mul}
 use native.Mathlib.Omega.{arith}
-use lib.Dec.{T, eqb, eqb→eq, lt→ltb, lit≤, lit<, T-not}
+use lib.Dec.{T, eqb, eqb→eq, lit≤, lit<, T-not}
 use lib.Ieee.{Float, nan, inf, fin, Format, binary64, up, down, neg, le, lt, eq, fits}
-use lib.Ieee.Fits.{and-l, mul-fits, div-fits, sub-fits, up-pos}
-use lib.Ieee.Scale.{finite}
+use lib.Ieee.Fits.{and-l, mul-fits, div-fits, sub-fits}
 use Rattle.numbers.proofs.Rounding.{rnd, rnd-fix, below-or-from}
-use Rattle.numbers.proofs.Units.{U, O, U-pos, U-O, Is, is-of, is-finite, is-same, sign, mag, pp, nn, neg-is, sub-opens}
-use Rattle.numbers.proofs.NonNegative.{Ext, Fine, unit-is, ext-le, finite-ext, nil-ext, unit-ext, mul-ext, div-ext, sub-fine, add-ext, fine-under, share-of, inside, U-held, rnd-ge, rnd-le}
-use Rattle.numbers.proofs.Shares.{contrast as contrast-share}
-use Rattle.numbers.proofs.Error.{Fin, P, N, M, parts, parts-le}
-use Rattle.numbers.proofs.WholeRoot.{RootErr, rootOf-err}
-use Rattle.numbers.proofs.Expression.{fv, _-ᶠ_, _*ᶠ_, mg, tame, closed}
-use Rattle.numbers.proofs.Direction.{two-U, two-O}
-use Rattle.numbers.proofs.Interpolation.{fine-N, pos-of, Around, Index, indexBits, indexMost}
-use Rattle.numbers.proofs.UnitVector.{root-val, root-fits, zero-units, fine-pos}
-use Rattle.numbers.specs.Float.{_⊕_, _⊖_, _⊗_, _⊘_, f0, f1, f2, max, abs}
-use Rattle.numbers.specs.SquareRoot.{sqrt, rootOfUnits}
+use Rattle.numbers.proofs.Rounding.Units.{U, O, U-pos, U-O, Is, is-of, sign, mag, pp, nn, neg-is, sub-opens, zero-units}
+use Rattle.numbers.proofs.Rounding.NonNegative.{Ext, Fine, ext-le, finite-ext, nil-ext, unit-ext, mul-ext, div-ext, sub-fine, add-ext, fine-under, share-of, inside, U-held, rnd-ge, rnd-le, fine-pos, ext-pos, two-U, two-O, unit-fine}
+use Rattle.numbers.proofs.Rounding.Shares.{contrast as contrast-share, Share, f1-share}
+use Rattle.numbers.proofs.Rounding.Error.{Fin, P, N, M, parts, parts-le}
+use Rattle.numbers.proofs.square_root.WholeRoot.{RootErr}
+use Rattle.numbers.proofs.Rounding.Expression.{fv, _-ᶠ_, _*ᶠ_, mg, tame, closed}
+use Rattle.numbers.proofs.dense_spectrum.Interpolation.{Around, Index, indexBits, indexMost}
+use Rattle.numbers.specs.Float.{_⊕_, _⊖_, _⊗_, _⊘_, f0, f1, f2, abs}
+use Rattle.numbers.specs.SquareRoot.{sqrt}
 use Rattle.optics.specs.Fresnel.{indexFrom, sin2I, isTotal, cosI, contrast, meanSquare, unpolarized, frFacing, frReal, frComplex, fresnel}
-use Rattle.optics.proofs.Sizes.{Upto, widen, expression, f1-upto, f1-parts, f2-units, held-O, ext-N, root-max, held-power, factor-pos, divide}
+use Rattle.numbers.proofs.Rounding.Sizes.{Upto, widen, expression, f1-upto, f1-parts, f2-units, held-O, ext-N, root-max, held-power, factor-pos, divide, fine-N, pos-of}
+use Rattle.numbers.proofs.square_root.RootOrZero.{rooted}
 
 abbrev B : Format
 B = binary64
-
--- finite, and from 0 to 1
-abbrev pub Share : Float → Type 0
-Share q = T (finite q) × T (le f0 q) × T (le q f1)
 
 pub le-nil : (x : Float) → Fin x → N x ≡ 0 → T (le f0 x)
 le-nil x f n = ext-le f0 x 0 (mag x) nil-ext (ext-N x f n) zero-le
@@ -64,11 +58,8 @@ zero-sized (inf s) f t = absurd (f .0)
 zero-sized (fin s m e) f t =
     let a = m * up e * 1 in
     let same = eqb→eq a (0 * 1 * down e) (and-l (eqb a (0 * 1 * down e)) (Bool·beq s false || eqb a 0) t) in
-    none (mag (fin s m e)) (is-of (fin s m e) tt (f .1) .0 .1) (lin (m * up e) (down e) same)
+    none (mag (fin s m e)) (is-of (fin s m e) tt (f .1) .0 .1) (omega arith)
   where
-    lin : (a d : ℕ) → a * 1 ≡ 0 * 1 * d → a ≡ 0
-    lin a d h = omega arith
-
     null : (a b : ℕ) → 0 * a * b ≡ 0 * b
     null a b = omega arith
 
@@ -188,9 +179,6 @@ sin2-upto c e h i =
 nle-parts : (x y : Float) → Fin x → Fin y → T (not (le x y)) → P y + N x < P x + N y
 nle-parts x y f g t = elim (below-or-from (P y + N x) (P x + N y)) [ inl l ↦ l | inr h ↦ absurd (T-not (le x y) t (parts-le x y f g h)) ]
 
-fine-one : Fine f1 U
-fine-one = (false, unit-is, refl)
-
 -- 1 - s is above 0, or the infinity
 pub gap : (s : Float) → Fin s → T (not (le f1 s)) → (n : ℕ) × Ext (f1 ⊖ s) n × (0 < n)
 unfolding P N
@@ -211,13 +199,10 @@ gap s f t = go (sign s) refl (nle-parts f1 s (f1-upto .fin) f t)
         let n = ap (λ (b : Bool). nn b a) e in
         let l : a < U = lin a U (P s) (N s) (P f1) (N f1) p n (f1-parts .0) (f1-parts .1) st in
         let fine-s : Fine s a = (false, subst (λ (b : Bool). Is s b a) e is, refl) in
-        (rnd 53 (U - a) 1, sub-fine f1 s U a fine-one fine-s (le-of-lt l), some (U - a) (less a U l))
+        (rnd 53 (U - a) 1, sub-fine f1 s U a unit-fine fine-s (le-of-lt l), some (U - a) (omega arith))
       where
         lin : (a u p n c d : ℕ) → p ≡ a → n ≡ 0 → c ≡ u → d ≡ 0 → p + d < c + n → a < u
         lin a u p n c d h₁ h₂ h₃ h₄ h₅ = omega arith
-
-        less : (a u : ℕ) → a < u → 1 ≤ u - a
-        less a u h = omega arith
     go true e st =
         let i : Is (neg s) false a = neg-is s true a (subst (λ (b : Bool). Is s b a) e is) in
         let sum = add-ext f1 (neg s) U a unit-ext (inl (held-O s f, (false, i, refl))) in
@@ -249,35 +234,24 @@ root-some n ρ p e =
 
     big-R : (R : ℕ) → (rootMost + 1) * (rootMost + 1) ≤ (R + 1) * (R + 1) → rootMost ≤ R
     big-R R h = elim (below-or-from R rootMost) [
-      | inl l ↦ absurd (not-le-of-lt (lt-of-le-of-lt (mul-le-mul (suc-le R l) (suc-le R l)) (lit< {m = rootMost * rootMost} {n = (rootMost + 1) * (rootMost + 1)} tt)) h)
+      | inl l ↦ (let s : R + 1 ≤ rootMost = omega arith in omega (arith, mul-le-mul s s))
       | inr k ↦ k
     ]
-      where
-        suc-le : (R : ℕ) → R < rootMost → R + 1 ≤ rootMost
-        suc-le R l = omega arith
 
     low : (R m ρ : ℕ) → rootMost ≤ R → 2 * R ≤ m → M * m ≤ M * (2 * ρ) + m → indexMost ≤ ρ
-    low R m ρ a b c = last m ρ (le-trans (mul-le-mul-left 2 a) b) (half m ρ c)
+    low R m ρ a b c = omega (arith, le-trans (mul-le-mul-left 2 a) b, half m ρ c)
       where
         half : (m ρ : ℕ) → M * m ≤ M * (2 * ρ) + m → m ≤ 4 * ρ
         half m ρ c = omega arith
-
-        last : (m ρ : ℕ) → 2 * rootMost ≤ m → m ≤ 4 * ρ → indexMost ≤ ρ
-        last m ρ a b = omega arith
 
 -- where 1 - s is n units
 pub inner-of : (s : Float) (n : ℕ) → Ext (f1 ⊖ s) n → 0 < n → n < O → Inner (cosI s)
 unfolding cosI
 inner-of s n e p l =
     let d = f1 ⊖ s in
-    let q = root-val d n (sub-fits B f1 s) (fine-pos d n (fine-under d n e l) p) p in
-    let r = rootOf-err n p l in
-    let i = sqrt (max d f0) in
-    let is-root : i ≡ rootOfUnits B n = ap (λ (z : Float). sqrt z) (q .1) ∙ q .0 in
-    let is : Is i false (r .0) = subst (λ (z : Float). Is z false (r .0)) (sym is-root) (r .1) in
-    let f : Fin i = (is-finite i false (r .0) is, root-fits (max d f0) n is-root) in
-    let same = is-same i false (sign i) (r .0) (mag i) is (is-of i (f .0) (f .1) .0) .1 in
-    record { fin = f; above = parts i false (r .0) f is .1; some = subst (λ (z : ℕ). indexMost ≤ z) same (root-some n (r .0) p (r .2)) }
+    let r = rooted d n (sub-fits B f1 s) (fine-pos d n (fine-under d n e l) p) p l in
+    let above = parts (sqrt d) false (mag (sqrt d)) (r .fin) (r .is) .1 in
+    rw (r .kept) (record { fin = r .fin; above = above; some = root-some n (mag (sqrt d)) p (r .err) })
 
 -- where s is not large
 one-minus : (s : Float) → Upto sin2Most s → Upto (2 * sin2Most) (f1 ⊖ s)
@@ -305,25 +279,6 @@ inner s h t =
     inner-of s (e .0) (e .1) (e .2) (finite-ext (f1 ⊖ s) (e .0) (e .1) (one-minus s h .fin .0))
 
 -- ---- the two quotients
-lt-of-pos : (z : Float) (n : ℕ) → Is z false n → 0 < n → T (lt f0 z)
-unfolding lt
-lt-of-pos (fin true m e) n i p = absurd (true≢false (i .0))
-lt-of-pos (fin false zero e) n i p = absurd (zero-units n e p (i .1))
-lt-of-pos (fin false (suc m) e) n i p =
-    lt→ltb (0 * 1 * down e) (suc m * up e * 1) (go (suc m * up e) (down e) (mul-pos (zero-lt-suc m) (up-pos e)))
-  where
-    go : (a d : ℕ) → 0 < a → 0 * 1 * d < a * 1
-    go a d h = omega arith
-
-inf-pos : T (lt f0 (inf false))
-unfolding lt
-inf-pos = tt
-
--- what is not negative and not of size 0 is above 0
-pub ext-pos : (x : Float) (n : ℕ) → Ext x n → 0 < n → T (lt f0 x)
-ext-pos x n (inl h) p = lt-of-pos x n (fine-pos x n (h .1) p) p
-ext-pos x n (inr h) p = subst (λ (z : Float). T (lt f0 z)) (sym (h .1)) inf-pos
-
 -- a sum of which one part is above 0
 sum-pos : (x y : Float) → Fin x → Fin y → N x ≡ 0 → N y ≡ 0 → 1 ≤ mag x + mag y → T (lt f0 (x ⊕ y))
 sum-pos x y f g n m p =
@@ -386,15 +341,12 @@ mean p q fp fq hp hq =
     let b = share-of q fq (hq .1) (hq .2) in
     let s = rnd 53 (a .0 + b .0) 1 in
     let two = mul-pos (lit< {m = 0} {n = 2} tt) U-pos in
-    let l : s ≤ 2 * U = rnd-le (2 * U) (a .0 + b .0) 1 (lit< tt) two-U (lin (a .0) (b .0) U (a .2) (b .2)) in
+    let l : s ≤ 2 * U = rnd-le (2 * U) (a .0 + b .0) 1 (lit< tt) two-U (omega arith) in
     let e = add-ext p q (a .0) (b .0) (inl (lt-of-le-of-lt (a .2) U-O, a .1)) (inl (lt-of-le-of-lt (b .2) U-O, b .1)) in
     let sum = fine-under (p ⊕ q) s e (lt-of-le-of-lt l two-O) in
     let d = div-ext (p ⊕ q) f2 s (2 * U) sum (false, (refl, f2-units), refl) two in
     inside ((p ⊕ q) ⊘ f2) f1 (rnd 53 (s * U) (2 * U)) U d unit-ext U-O
     (rnd-le U (s * U) (2 * U) two (U-held .0) (le-trans (mul-le-mul-right U l) (le-of-eq (mul-comm (2 * U) U))))
-  where
-    lin : (a b u : ℕ) → a ≤ u → b ≤ u → a + b ≤ 2 * u * 1
-    lin a b u h k = omega arith
 
 -- ---- the whole term
 pub unpolarized-share : (e c i : Float) → Fin c → N c ≡ 0 → Inner i → Indexed e c → Indexed e i → Share (unpolarized e c i)
@@ -403,22 +355,8 @@ unpolarized-share e c i f n y ec ei =
     let p = contrast (e ⊗ c) i in
     let s = contrast c (e ⊗ i) in
     mean (p ⊗ p) (s ⊗ s) (mul-fits B p p) (mul-fits B s s)
-    (squared (e ⊗ c) i (ec .fin) (y .fin) (ec .above) (y .above) (lin (mag (e ⊗ c)) (mag i) (y .some)))
-    (squared c (e ⊗ i) f (ei .fin) n (ei .above) (lin' (mag c) (mag (e ⊗ i)) (ei .some (y .some))))
-  where
-    lin : (a b : ℕ) → indexMost ≤ b → 1 ≤ a + b
-    lin a b h = omega arith
-
-    lin' : (a b : ℕ) → 1 ≤ b → 1 ≤ a + b
-    lin' a b h = omega arith
-
-pub f1-share : Share f1
-unfolding le
-f1-share = (tt, tt, tt)
-
-pub f0-share : Share f0
-unfolding le
-f0-share = (tt, tt, tt)
+    (squared (e ⊗ c) i (ec .fin) (y .fin) (ec .above) (y .above) (omega arith))
+    (squared c (e ⊗ i) f (ei .fin) n (ei .above) (omega (arith, ei .some (y .some))))
 
 facing-share : (c e : Float) → Upto 64 c → N c ≡ 0 → Index e → Share (frFacing c e)
 unfolding frFacing

@@ -8,8 +8,8 @@ use Rattle.numbers.specs.Vec3.{dot}
 use Rattle.numbers.specs.declared.complex.Complex.{Complex}
 use Rattle.numbers.specs.declared.vec3.Vec3.{Vec3}
 use Rattle.optics.specs.Fresnel.{indexFrom, sin2I, isTotal, cosI, contrast, meanSquare, unpolarized, frFacing, frReal, complexCosI, rPar, rPer, frComplexFacing, frComplex, fresnel, fAt}
-use Rattle.optics.proofs.Fresnel.{f0-share, f1-share}
-use Rattle.optics.proofs.Signs.{NotNegative, Plus, plus-not-below, square-plus, add-plus, div-not-below, share-not-below}
+use Rattle.numbers.proofs.Rounding.Signs.{NotNegative, Plus, plus-not-below, square-plus, add-plus, div-not-below, share-not-below}
+use Rattle.numbers.proofs.Rounding.Shares.{f1-share, f0-share}
 
 half-not-below : (x : Float) → Plus x → NotNegative (x ⊘ f2)
 half-not-below x h = div-not-below x f2 (plus-not-below x h) refl

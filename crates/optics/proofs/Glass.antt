@@ -2,28 +2,28 @@
 -- normal or Z.
 -- Proved: the share F is finite and from 0 to 1 (`glass-share`); F and 1 - F, with 1 - F from 0 to 1, add up to 1 exactly, the
 -- sampler's quotient F / (F + (1 - F)) is F, and its test is u < F (`shares-of`); what the samplers give is never total reflection,
--- and a direction of theirs has finite parts (`glass-outcome`, `metal-outcome`; `glass-never-total`, `glass-direction`,
--- `metal-direction`). Where `refract` would meet total reflection F is 1, to the last bit the same computation (`total-is-one`), so
+-- and a direction of theirs has finite parts (`glass-outcome`, `metal-outcome`; `glass-never-total`,
+-- `glass-direction`). Where `refract` would meet total reflection F is 1, to the last bit the same computation (`total-is-one`), so
 -- that u < 1 takes the mirrored branch.
 use mathlib.Core.Path.{_≡_, refl, sym, ap, _∙_, subst}
 use mathlib.Core.List.{[], _∷_}
 use mathlib.Core.Bool.{Bool, true, false, cond}
 use Prim.Native.Nat.{ℕ, _+_, _*_, _≤_, _<_}
-use native.Mathlib.Nat.{le-trans, le-of-eq, lt-of-le-of-lt, mul-le-mul-right, le-of-mul-le-mul-right, mul-comm, mul-assoc}
+use native.Mathlib.Nat.{le-trans, le-of-eq, lt-of-le-of-lt, mul-le-mul-right, le-of-mul-le-mul-right, mul-comm, mul-assoc, mul-le-mul-left}
 use native.Mathlib.Omega.{arith}
 use lib.Dec.{T, lit≤, lit<}
 use lib.Ieee.{Float, nan, inf, fin, Format, binary64, unlike, neg, mul, lt, eq, fits}
 use lib.Ieee.Fits.{add-fits, div-fits}
 use Rattle.numbers.proofs.Rounding.{rnd}
-use Rattle.numbers.proofs.Units.{U, O, U-pos, Is, is-of, sign, mag, div-is, round-units, rnd-U, unique}
-use Rattle.numbers.proofs.NonNegative.{unit-is}
-use Rattle.numbers.proofs.Shares.{shares}
-use Rattle.numbers.proofs.Error.{Fin, M/2}
-use Rattle.numbers.proofs.Expression.{fv, _+ᶠ_, _-ᶠ_, _*ᶠ_, mg, tame, closed}
-use Rattle.numbers.proofs.Interpolation.{pos-of, Index, indexBits, indexMost}
-use Rattle.numbers.proofs.UnitVector.{norm, k46, sum3, sum3-err, dot-ext, k51, twice51}
+use Rattle.numbers.proofs.Rounding.Units.{U, O, U-pos, Is, is-of, sign, mag, div-is, round-units, rnd-U, unique}
+use Rattle.numbers.proofs.Rounding.NonNegative.{unit-is}
+use Rattle.numbers.proofs.Rounding.Shares.{shares, Share}
+use Rattle.numbers.proofs.Rounding.Error.{Fin, M/2}
+use Rattle.numbers.proofs.Rounding.Expression.{fv, _+ᶠ_, _-ᶠ_, _*ᶠ_, mg, tame, closed}
+use Rattle.numbers.proofs.dense_spectrum.Interpolation.{Index, indexBits, indexMost}
+use Rattle.numbers.proofs.vec3.UnitVector.{norm, k46, sum3, sum3-err, dot-ext, k51, twice51, room-O}
 use Rattle.numbers.specs.Float.{_⊕_, _⊖_, _⊗_, _⊘_, f0, f1, f2, abs}
-use Rattle.numbers.specs.Vec3.{vec3, add, sub, mulFloat, floatMul, divFloat, negate, dot, lengthSquared, projectOnto}
+use Rattle.numbers.specs.Vec3.{vec3, add, sub, floatMul, divFloat, negate, dot, lengthSquared, projectOnto}
 use Rattle.numbers.specs.SphericalUtils.{sameHemisphere}
 use Rattle.numbers.specs.declared.vec2.Vec2.{Vec2}
 use Rattle.numbers.specs.declared.vec3.Vec3.{Vec3}
@@ -31,9 +31,9 @@ use Rattle.optics.specs.Facets.{isDelta}
 use Rattle.optics.specs.Fresnel.{indexFrom, sin2I, isTotal, cosI, meanSquare, unpolarized, frFacing, frReal, frComplex, frComplexFacing, fresnel, fAt}
 use Rattle.optics.specs.Bxdf.{direction, none, total, mirrored, reflect, bent, acrossOnly, refractFacing, refract, Scattered, scattered, lost, totally, branch, conductorFrom, rest, reflects, dielectricFrom}
 use Rattle.optics.proofs.Cosine.{dot-comm}
-use Rattle.optics.proofs.Sizes.{Upto, Span, widen, widen3, expression, f2-upto, neg-upto, negate-span, held-power, divide}
+use Rattle.numbers.proofs.Rounding.Sizes.{Upto, Span, widen, widen3, expression, f2-upto, neg-upto, negate-span, held-power, divide, pos-of}
 use Rattle.optics.proofs.SampledNormal.{Unitary, unit-span, Local, local-span}
-use Rattle.optics.proofs.Fresnel.{Share, index-inverse, sin2-upto, innerMost, inner-upto, reach, fresnel-real, fresnel-share}
+use Rattle.optics.proofs.Fresnel.{index-inverse, sin2-upto, innerMost, inner-upto, reach, fresnel-real, fresnel-share}
 
 abbrev B : Format
 B = binary64
@@ -124,10 +124,6 @@ pub glass-shares : (wo wh : Vec3) (eta k : Float) → Local wo → Unitary wh �
 glass-shares wo wh eta k h u i z = shares-of (fAt wo wh eta k) (share-fits wo wh eta k) (glass-share wo wh eta k h u i z)
 
 -- ---- the mirrored direction
-up-O : 2305843009213693952 * U < O
-unfolding U O
-up-O = lit< tt
-
 low-norm : 1024 * (M/2 * U) * 2 ≤ U * U
 unfolding U
 low-norm = lit≤ tt
@@ -144,24 +140,18 @@ self-dot n h =
     let c = mag (n .z) in
     let D = norm a b c in
     let s = sum3 a b c in
-    let lo : U * U ≤ 2 * D = lin D (U * U) (h .one .1) in
+    let lo : U * U ≤ 2 * D = omega arith in
     let e = sum3-err a b c (le-of-mul-le-mul-right {k = 2} (le-trans low-norm (le-trans lo (le-of-eq (mul-comm 2 D)))) (lit< tt)) in
     let hi : s * U ≤ 12 * U * U =
     le-trans (lin2 (s * U) D (U * U) (e .0) (lin3 D (U * U) (h .one .0))) (le-of-eq (sym (mul-assoc 12 U U))) in
     let top = le-trans (le-of-mul-le-mul-right {k = U} hi U-pos) (mul-le-mul-right U (lit≤ {m = 12} {n = 2305843009213693952} tt)) in
-    let p = pos-of (dot n n) s (dot-fits n n) (dot-ext n (h .ux .fin) (h .uy .fin) (h .uz .fin)) (lt-of-le-of-lt top up-O) in
+    let p = pos-of (dot n n) s (dot-fits n n) (dot-ext n (h .ux .fin) (h .uy .fin) (h .uz .fin)) (lt-of-le-of-lt top room-O) in
     let low = le-trans (lin4 (s * U) D (e .1)) (le-of-eq (sym (mul-assoc 16384 s U))) in
     let away = le-of-mul-le-mul-right {k = U} (le-trans lo low) U-pos in
     (p .fin, subst (λ (z : ℕ). U ≤ 16384 * z) (sym (p .is)) away)
   where
-    lin : (D v : ℕ) → k46 * v ≤ k46 * D + v → v ≤ 2 * D
-    lin D v h = omega arith
-
     lin2 : (w D v : ℕ) → k51 * w ≤ k51 * D + D → D ≤ 2 * v → w ≤ 12 * v
-    lin2 w D v a b = last w D v (twice51 w D a) b
-      where
-        last : (w D v : ℕ) → w ≤ 2 * D → D ≤ 2 * v → w ≤ 12 * v
-        last w D v a b = omega arith
+    lin2 w D v a b = le-trans (twice51 w D a) (le-trans (mul-le-mul-left 2 b) (omega arith))
 
     lin3 : (D v : ℕ) → k46 * D ≤ k46 * v + v → D ≤ 2 * v
     lin3 D v h = omega arith
@@ -178,7 +168,7 @@ mirror-part m c s v hm hc fs hs hv =
     expression reach (f2 ∷ m ⊗ c ⊘ s ∷ v ∷ []) (2 ∷ 8192 * 16384 ∷ 8 ∷ []) (fv 0 *ᶠ fv 1 -ᶠ fv 2) (f2-upto, (q, (hv, tt))) tt tt (lit≤ tt)
 
 pub mirror-span : (wo n : Vec3) → Local wo → Unitary n → Span reach (mirrored wo n)
-unfolding mirrored sub floatMul projectOnto divFloat mulFloat lengthSquared
+unfolding mirrored sub floatMul projectOnto divFloat lengthSquared
 mirror-span wo n h u =
     let c = dot wo n in
     let hc = cosine-upto wo n h u in
@@ -361,7 +351,3 @@ metal-outcome a wo wh h w = go (isDelta a)
     go : (b : Bool) → Outcome (cond b (scattered m true) (branch true (reflect wo wh)))
     go true = widen3 8 reach m (lit≤ tt) turned
     go false = reflect-outcome wo wh h w
-
-pub metal-direction : (a : Vec2) (wo wh wi : Vec3) (reflection : Bool) → Local wo → Unitary wh
-    → conductorFrom a wo wh ≡ scattered wi reflection → Span reach wi
-metal-direction a wo wh wi reflection h w e = subst (λ (s : Scattered). Outcome s) e (metal-outcome a wo wh h w)

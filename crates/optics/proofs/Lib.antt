@@ -2,11 +2,9 @@
 pub mod Cosine
 pub mod SharedTerms
 pub mod Samples
-pub mod Sizes
 pub mod SampledNormal
 pub mod Fresnel
 pub mod AnyCosine
-pub mod Signs
 pub mod FresnelSign
 pub mod Glass
 pub mod Shadowing

@@ -8,22 +8,21 @@ use mathlib.Core.Logic.{_⊎_, inl, inr}
 use mathlib.Core.List.{List, [], _∷_}
 use mathlib.Core.Bool.{Bool, true, false, not, cond, _&&_}
 use Prim.Native.Nat.{ℕ, suc, _+_, _*_, _/_, _^_, _≤_, _<_}
-use native.Mathlib.Nat.{le-trans, le-of-eq, mul-le-mul-right, mul-le-mul-left, mul-le-mul, le-of-mul-le-mul-right, mul-comm, mul-assoc}
+use native.Mathlib.Nat.{le-trans, le-of-eq, mul-le-mul-right, mul-le-mul-left, mul-le-mul, le-of-mul-le-mul-right}
 use native.Mathlib.Omega.{arith}
 use lib.IntN.{negsuc}
 use lib.Dec.{T, lit≤}
 use lib.Ieee.{Float, nan, inf, fin, Format, binary64, isNan, neg, le, lt, fits}
 use lib.Ieee.Fits.{and-l, and-r}
 use Rattle.numbers.proofs.Rounding.{Near, below-or-from}
-use Rattle.numbers.proofs.Units.{U, U-pos, mag}
-use Rattle.numbers.proofs.NonNegative.{lt-le}
-use Rattle.numbers.proofs.Error.{Fin, P, N, le-parts, neg-parts}
-use Rattle.numbers.proofs.SignedPoly.{R, _⊞_, _⊠_, inv, nat, va, li, _∔_, _⋆_, minus, vanishes, ab, ab-inv, ab-nat, ab-mul, ab-poly, Q, Bd, sc, bd-unsc, lift}
-use Rattle.numbers.proofs.Expression.{rv, sc0, pow1, pow2, ulp, mul-bd, Fl, fv, _+ᶠ_, _-ᶠ_, _*ᶠ_, pd, ex, mg, er, tame, closed, sound}
-use Rattle.numbers.proofs.Direction.{Direction, size-mag, sum-mag, flip-near, unit-fin, unit-rv}
-use Rattle.numbers.proofs.LocalBasis.{Tame, Tame3, Large, local-tame, local-large}
-use Rattle.numbers.proofs.Interpolation.{le-finite}
-use Rattle.numbers.proofs.UnitVector.{norm, Room, Unit3, unit-of, k46, twice47}
+use Rattle.numbers.proofs.Rounding.Units.{U, U-pos, mag, le-finite}
+use Rattle.numbers.proofs.Rounding.NonNegative.{lt-le}
+use Rattle.numbers.proofs.Rounding.Error.{Fin, P, N, le-parts, neg-parts, sum-mag, unit-fin, one-side}
+use Rattle.numbers.proofs.Rounding.SignedPoly.{R, _⊞_, _⊠_, inv, nat, va, li, _∔_, _⋆_, minus, vanishes, ab, ab-inv, ab-nat, ab-mul, ab-poly, Q, Bd, sc, bd-unsc, lift}
+use Rattle.numbers.proofs.Rounding.Expression.{rv, sc0, pow1, pow2, ulp, mul-bd, Fl, fv, _+ᶠ_, _-ᶠ_, _*ᶠ_, pd, ex, mg, er, tame, closed, sound, size-mag}
+use Rattle.numbers.proofs.vec3.Direction.{Direction, flip-near, unit-rv}
+use Rattle.numbers.proofs.onb.LocalBasis.{Tame, Tame3, Large, local-tame, local-large}
+use Rattle.numbers.proofs.vec3.UnitVector.{norm, Room, Unit3, unit-of, k46, twice47}
 use Rattle.numbers.specs.Float.{_⊕_, _⊖_, _⊗_, f0, f1, f-1, max, within, decimal, epsilon}
 use Rattle.numbers.specs.SquareRoot.{sqrt}
 use Rattle.numbers.specs.Vec3.{vec3, X, Z, add, floatMul, negate, cross, normalize}
@@ -33,7 +32,7 @@ use Rattle.numbers.specs.declared.vec3.Vec3.{Vec3}
 use Rattle.optics.specs.Surface.{roughnessMin, isRoughness, roughnessHolds}
 use Rattle.optics.specs.Checked.{isRandom, isCirclePair}
 use Rattle.optics.specs.Sampler.{stretched, upright, viewed, tangent, lerp, diskX, diskH, diskY, diskZ, onHemisphere, combined, unstretched, sampleNormal}
-use Rattle.optics.proofs.Sizes.{Upto, Span, widen, Sized, limits, vars-of, bd-upto, upto-bd, expression, f0-upto, f1-upto, f1-parts, f0-parts, mag-neg, neg-upto, opened, zero-N, not-neg, in-disk, nlt-parts, lt-zero, root-upto, root-max, half}
+use Rattle.numbers.proofs.Rounding.Sizes.{Upto, Span, widen, Sized, limits, vars-of, bd-upto, upto-bd, expression, f0-upto, f1-upto, f1-parts, f0-parts, mag-neg, neg-upto, zero-N, not-neg, in-disk, nlt-parts, lt-zero, root-upto, root-max, half}
 
 abbrev B : Format
 B = binary64
@@ -83,7 +82,7 @@ rough-part r fr h =
     let f : Fin r = (le-finite least r f1 tt tt (b .0) (b .1), fr) in
     let l = le-parts least r least-fin f (b .0) in
     let m = le-parts r f1 f (unit-fin false) (b .1) in
-    let n0 : N r ≡ 0 = zero-N (P r) (N r) (P least) (N least) l (least-is .1) (opened r) in
+    let n0 : N r ≡ 0 = zero-N (P r) (N r) (P least) (N least) l (least-is .1) (one-side r) in
     let at-most = hi (P r) (N r) (P f1) (N f1) U m (f1-parts .0) (f1-parts .1) n0 in
     let at-least = lo (P r) (N r) (P least) (N least) U l (least-is .0) (least-is .1) in
     record {
@@ -114,22 +113,10 @@ abbrev Few : ℕ → Type 0
 Few a = a ≤ 536870912 * U
 
 room-low : (a t : ℕ) → Some a → a * a ≤ t → U * U ≤ 2 ^ 80 * t
-room-low a t h g =
-    let squared = mul-le-mul-left (549755813888 * 549755813888) g in
-    le-trans (mul-le-mul h h) (le-trans (le-of-eq (re a)) (le-trans squared (mul-le-mul-right t (lit≤ tt))))
-  where
-    re : (a : ℕ) → 549755813888 * a * (549755813888 * a) ≡ 549755813888 * 549755813888 * (a * a)
-    re a = omega arith
+room-low a t h g = omega (arith, mul-le-mul h h)
 
 room-high : (a b c : ℕ) → Few a → Few b → Few c → norm a b c ≤ 1152921504606846976 * (U * U)
-room-high a b c h k l = go (a * a) (b * b) (c * c) (U * U) (sqr a U (mul-le-mul h h)) (sqr b U (mul-le-mul k k)) (sqr c U (mul-le-mul l l))
-  where
-    sqr : (a u : ℕ) → a * a ≤ 536870912 * u * (536870912 * u) → a * a ≤ 288230376151711744 * (u * u)
-    sqr a u h = omega arith
-
-    go : (x y z s : ℕ) → x ≤ 288230376151711744 * s → y ≤ 288230376151711744 * s → z ≤ 288230376151711744 * s
-        → x + y + z ≤ 1152921504606846976 * s
-    go x y z s a b c = omega arith
+room-high a b c h k l = omega (arith, mul-le-mul h h, mul-le-mul k k, mul-le-mul l l)
 
 room-of : (a b c : ℕ) → Few a → Few b → Few c → Some a ⊎ (Some b ⊎ Some c) → Room a b c
 room-of a b c h k l (inl s) = (room-low a (norm a b c) s (omega arith), room-high a b c h k l)
@@ -171,26 +158,12 @@ scaled-low x r h k l =
     ab-mul (nat U) (rv z) ∙ ap (λ (t : ℕ). t * ab (rv z)) (ab-nat U) ∙ ap (λ (t : ℕ). U * t) (size-mag z) in
     let near : mag x * mag r ≤ U * mag z + d = rw (exact, rounded) at (flip-near (nat U ⊠ rv z) (rv x ⊠ rv r)) in
     let large : U * U ≤ 2097152 * (mag x * mag r) =
-    le-trans (mul-le-mul (subst (λ (t : ℕ). U ≤ 16 * t) (size-mag x) l) (k .low)) (le-of-eq (re (mag x) (mag r))) in
+    le-trans (mul-le-mul (subst (λ (t : ℕ). U ≤ 16 * t) (size-mag x) l) (k .low)) (le-of-eq (omega arith)) in
     let tiny : Q * d ≤ ulp most * (U * U) = subst (λ (t : ℕ). Q * d ≤ ulp most * t) pow2 (w .1) in
-    le-of-mul-le-mul-right {k = U} (last (mag x * mag r) (U * mag z) d (U * U) (mag z) U large near tiny (mul-comm U (mag z))) U-pos
-  where
-    re : (a b : ℕ) → 16 * a * (131072 * b) ≡ 2097152 * (a * b)
-    re a b = omega arith
-
-    last : (p uz d s z u : ℕ) → s ≤ 2097152 * p → p ≤ uz + d → Q * d ≤ ulp most * s → uz ≡ z * u → s ≤ 549755813888 * z * u
-    last p uz d s z u a b c e =
-        let moved = le-trans (le-of-eq (ap (λ (t : ℕ). 549755813888 * t) e)) (le-of-eq (sym (mul-assoc 549755813888 z u))) in
-        le-trans (go p uz d s a b c) moved
-      where
-        go : (p uz d s : ℕ) → s ≤ 2097152 * p → p ≤ uz + d → Q * d ≤ ulp most * s → s ≤ 549755813888 * uz
-        go p uz d s a b c = omega arith
+    le-of-mul-le-mul-right {k = U} (omega arith) U-pos
 
 some-large : (x : Float) → Large x → Some (mag x)
-some-large x l = go (mag x) U (subst (λ (t : ℕ). U ≤ 16 * t) (size-mag x) l)
-  where
-    go : (m u : ℕ) → u ≤ 16 * m → u ≤ 549755813888 * m
-    go m u h = omega arith
+some-large x l = omega (arith, subst (λ (t : ℕ). U ≤ 16 * t) (size-mag x) l)
 
 -- before it is normalised
 abbrev squeezed : Vec2 → Vec3 → Vec3
@@ -255,14 +228,8 @@ z-unitary = record {
   ux = z-span .x;
   uy = z-span .y;
   uz = z-span .z;
-  one = rw (z-mags .0, z-mags .1) (lin (0 * 0 + 0 * 0 + U * U) (U * U) (same (U * U)));
+  one = rw (z-mags .0, z-mags .1) (omega arith, omega arith);
 }
-  where
-    same : (v : ℕ) → 0 * 0 + 0 * 0 + v ≡ v
-    same v = omega arith
-
-    lin : (x v : ℕ) → x ≡ v → Near (k46 * x) (k46 * v) v
-    lin x v e = (omega arith, omega arith)
 
 negate-unitary : (v : Vec3) → Unitary v → Unitary (negate v)
 unfolding negate
@@ -290,7 +257,7 @@ raised v h = go (lt (v .z) f0) (lt-zero (v .z) (h .uz .fin)) (nlt-parts (v .z) f
     go true f g =
         let above = neg-parts (v .z) (h .uz .fin) .2 ∙ f tt in
         record { unit = negate-unitary v h; above = rw (negated-z v) above }
-    go false f g = record { unit = h; above = zero-N (P (v .z)) (N (v .z)) (P f0) (N f0) (g tt) (f0-parts .1) (opened (v .z)) }
+    go false f g = record { unit = h; above = zero-N (P (v .z)) (N (v .z)) (P f0) (N f0) (g tt) (f0-parts .1) (one-side (v .z)) }
 
 -- ---- the first tangent: where 1 - z is not below EPSILON, z is away from 1
 eps-fin : Fin epsilon
@@ -302,10 +269,7 @@ unfolding P N U epsilon decimal
 eps-is = (lit≤ tt, refl, lit≤ tt)
 
 tiny-of : (d k u : ℕ) → Q * d ≤ k * u → k ≤ 16777216 → 1099511627776 * d ≤ u
-tiny-of d k u h g = go d u (le-trans h (mul-le-mul-right u g))
-  where
-    go : (d u : ℕ) → Q * d ≤ 16777216 * u → 1099511627776 * d ≤ u
-    go d u h = omega arith
+tiny-of d k u h g = omega (arith, le-trans h (mul-le-mul-right u g))
 
 -- a difference of parts, opened
 opened-side : (a b c e f g : ℕ) → a + (e + f) ≤ b + (c + g) + ab ((a, b) ⊞ inv ((c, e) ⊞ inv (f, g)))
@@ -622,7 +586,3 @@ sampled-normal a l disk c s h k d =
     let p = onHemisphere v (sqrt disk) c s in
     let size = combined-span t v p (tangent-span v r) (unit-span v (r .unit)) (hemisphere-span v disk c s d (r .unit .uz)) in
     unstretched-unitary a (combined t v p) h size
-
-pub sampled-normal-world : (a : Vec2) (n wo : Vec3) (disk c s : Float) → Direction n → Direction wo → Rough a → Disk disk c s
-    → Unitary (sampleNormal a (toLocal (basis n) wo) disk c s)
-sampled-normal-world a n wo disk c s hn ho h d = sampled-normal a (toLocal (basis n) wo) disk c s h (local-of n wo hn ho) d

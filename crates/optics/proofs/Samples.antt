@@ -30,7 +30,7 @@ unfolding add sub mul div neg lt le eq isNan decimal epsilon max abs clamp signB
 fr-real-1 = refl
 
 fr-complex : frComplex (dot Z Z) f1 f2 ≡ half
-unfolding add sub mul div neg lt le eq isNan decimal epsilon max abs clamp signBit signum isInfinite powi2 squareRoot dot C.add C.sub C.mul C.div C.sqrt C.norm C.normSqr C.co C.cosHalf C.sinHalf C.floatAdd C.floatSub C.mulFloat C.floatMul C.floatDiv C.divFloat C.isZero complexCosI rPar rPer frComplexFacing frComplex
+unfolding add sub mul div neg lt le eq isNan decimal epsilon max abs clamp signBit signum isInfinite powi2 squareRoot dot C.div C.sqrt C.norm C.normSqr C.cosHalf C.sinHalf C.floatDiv C.divFloat C.isZero complexCosI rPar rPer frComplexFacing frComplex
 fr-complex = refl
 
 f-at-real : fAt Z Z (decimal 3 1) f0 ≡ quarter
@@ -38,7 +38,7 @@ unfolding add sub mul div neg lt le eq isNan decimal epsilon max abs clamp signB
 f-at-real = refl
 
 f-at-complex : fAt Z Z f1 f2 ≡ half
-unfolding add sub mul div neg lt le eq isNan decimal epsilon max abs clamp signBit signum isInfinite powi2 squareRoot dot C.add C.sub C.mul C.div C.sqrt C.norm C.normSqr C.co C.cosHalf C.sinHalf C.floatAdd C.floatSub C.mulFloat C.floatMul C.floatDiv C.divFloat C.isZero complexCosI rPar rPer frComplexFacing frComplex fresnel fAt
+unfolding add sub mul div neg lt le eq isNan decimal epsilon max abs clamp signBit signum isInfinite powi2 squareRoot dot C.div C.sqrt C.norm C.normSqr C.cosHalf C.sinHalf C.floatDiv C.divFloat C.isZero complexCosI rPar rPer frComplexFacing frComplex fresnel fAt
 f-at-complex = refl
 
 lambda-w : lambda rough w ≡ half

@@ -15,23 +15,24 @@ use lib.Ieee.{Float, nan, inf, fin, Format, binary64, unlike, up, down, level, n
 use lib.Ieee.Fits.{and-i, eq→eqb, add-fits, mul-fits, div-fits, sub-fits}
 use lib.Ieee.Scale.{finite}
 use Rattle.numbers.proofs.Rounding.{rnd, below-or-from}
-use Rattle.numbers.proofs.Units.{U, O, U-pos, U-O, Is, is-of, is-finite, is-same, sign, mag, either, units-pos}
-use Rattle.numbers.proofs.NonNegative.{Ext, Fine, unit-is, ext-le, finite-ext, nil-ext, unit-ext, mul-ext, div-ext, sub-fine, add-ext, fine-under, U-held, rnd-ge, rnd-le}
-use Rattle.numbers.proofs.Monotone.{size-of, recip-le, ratio}
-use Rattle.numbers.proofs.Error.{Fin, P, N}
-use Rattle.numbers.proofs.WholeRoot.{RootErr, rootOf-err}
-use Rattle.numbers.proofs.Expression.{fv, _+ᶠ_, _-ᶠ_, _*ᶠ_, mg, tame, closed}
-use Rattle.numbers.proofs.Interpolation.{fine-N, Pos, pos-of}
-use Rattle.numbers.proofs.UnitVector.{root-val, root-fits, zero-units, fine-pos, sq, sq-ext}
+use Rattle.numbers.proofs.Rounding.Units.{U, O, U-pos, U-O, Is, is-of, mag, either, units-pos, zero-units}
+use Rattle.numbers.proofs.Rounding.NonNegative.{Ext, Fine, ext-le, finite-ext, nil-ext, unit-ext, mul-ext, div-ext, sub-fine, add-ext, fine-under, U-held, rnd-ge, rnd-le, fine-pos, ext-pos, unit-fine}
+use Rattle.numbers.proofs.Rounding.Monotone.{size-of, recip-le, ratio}
+use Rattle.numbers.proofs.Rounding.Error.{Fin, P, N}
+use Rattle.numbers.proofs.square_root.WholeRoot.{RootErr}
+use Rattle.numbers.proofs.Rounding.Expression.{fv, _+ᶠ_, _-ᶠ_, _*ᶠ_, mg, tame, closed}
+use Rattle.numbers.proofs.vec3.UnitVector.{sq, sq-ext}
 use Rattle.numbers.specs.Float.{_⊕_, _⊖_, _⊗_, _⊘_, f0, f1, f2, f-1, max, clamp, isInfinite, powi2}
-use Rattle.numbers.specs.SquareRoot.{sqrt, squareRoot, rootOfUnits}
+use Rattle.numbers.specs.SquareRoot.{sqrt, squareRoot}
 use Rattle.numbers.specs.SphericalUtils.{cos2Theta, sin2Theta, tan2Theta, sinTheta, cosPhi, sinPhi}
 use Rattle.numbers.specs.declared.vec2.Vec2.{Vec2}
 use Rattle.numbers.specs.declared.vec3.Vec3.{Vec3}
 use Rattle.optics.specs.Facets.{alpha2, lambdaOf, lambda, chiPass, masked, g1, g, gOverG1}
-use Rattle.optics.proofs.Sizes.{Upto, Span, Held, held-power, Number, div-number, widen, expression, f0-upto, f1-upto, f-1-upto, f2-units, upto-one, not-neg, nlt-parts, ext-N, NonNeg, max-zero, root-upto}
+use Rattle.numbers.proofs.Rounding.Sizes.{Upto, Span, Held, held-power, Number, div-number, widen, expression, f0-upto, f1-upto, f-1-upto, f2-units, upto-one, not-neg, nlt-parts, ext-N, NonNeg, max-zero, root-upto, fine-N, Pos, pos-of}
+use Rattle.numbers.proofs.square_root.RootOrZero.{rooted}
+use Rattle.numbers.proofs.Rounding.Shares.{Share, f0-share}
 use Rattle.optics.proofs.SampledNormal.{Rough, rough-x, rough-y}
-use Rattle.optics.proofs.Fresnel.{Share, f0-share, reachBits, reach, ext-pos}
+use Rattle.optics.proofs.Fresnel.{reachBits, reach}
 
 abbrev B : Format
 B = binary64
@@ -133,9 +134,6 @@ zero-div (fin false (suc m) e) (fin t (suc k) d) n i p f q =
     let some = units-pos k (mag (fin t (suc k) d)) d (is-of (fin t (suc k) d) tt (f .1) .0 .1) in
     absurd (lt-irrefl 0 (subst (λ (z : ℕ). 0 < z) q some))
 
-fine-one : Fine f1 U
-fine-one = (false, unit-is, refl)
-
 -- where cos² is 0, sin² is 1
 sin2-is-one : (w : Vec3) → Pos (cos2Theta w) (sq (mag (w .z))) → mag (cos2Theta w) ≡ 0 → Is (sin2Theta w) false U
 unfolding sin2Theta
@@ -143,14 +141,11 @@ sin2-is-one w c m0 =
     let c2 = cos2Theta w in
     let d = f1 ⊖ c2 in
     let fine-c = fine-N c2 (c .fin) (c .zero-N) in
-    let e : Ext d (rnd 53 (U - mag c2) 1) = sub-fine f1 c2 U (mag c2) fine-one fine-c (le-trans (le-of-eq m0) zero-le) in
-    let whole = ap (λ (n : ℕ). rnd 53 (U - n) 1) m0 ∙ ap (λ (n : ℕ). rnd 53 n 1) (full U) ∙ U-held .0 in
+    let e : Ext d (rnd 53 (U - mag c2) 1) = sub-fine f1 c2 U (mag c2) unit-fine fine-c (le-trans (le-of-eq m0) zero-le) in
+    let whole = ap (λ (n : ℕ). rnd 53 (U - n) 1) m0 ∙ ap (λ (n : ℕ). rnd 53 n 1) (omega arith) ∙ U-held .0 in
     let e' : Ext d U = subst (λ (n : ℕ). Ext d n) whole e in
     let i : Is d false U = fine-pos d U (fine-under d U e' U-O) U-pos in
-    subst (λ (x : Float). Is x false U) (sym (root-val d U (sub-fits B f1 c2) i U-pos .1)) i
-  where
-    full : (u : ℕ) → u - 0 ≡ u
-    full u = omega arith
+    subst (λ (x : Float). Is x false U) (sym (rooted d U (sub-fits B f1 c2) i U-pos U-O .kept)) i
 
 tan-of : (w : Vec3) → Upto reach (w .z) → Tan w
 unfolding tan2Theta
@@ -232,10 +227,7 @@ root-ge n ρ e h =
     re u = omega arith
 
     ge-R : (R : ℕ) → U * U < (R + 1) * (R + 1) → U ≤ R
-    ge-R R h = elim (below-or-from R U) [ inl l ↦ absurd (not-le-of-lt h (mul-le-mul (suc-le R U l) (suc-le R U l))) | inr k ↦ k ]
-      where
-        suc-le : (R u : ℕ) → R < u → R + 1 ≤ u
-        suc-le R u l = omega arith
+    ge-R R h = elim (below-or-from R U) [ inl l ↦ (let s : R + 1 ≤ U = omega arith in absurd (not-le-of-lt h (mul-le-mul s s))) | inr k ↦ k ]
 
 inf-grown : (sqrt (max (inf false) f0) ⊖ f1) ⊘ f2 ≡ inf false
 unfolding max isNan squareRoot sub add neg div lt
@@ -264,21 +256,14 @@ grown-ext t p e = go (add-ext f1 t U p unit-ext e)
     go (inr h) = (O, inr (le-refl O, ap (λ (z : Float). (sqrt (max z f0) ⊖ f1) ⊘ f2) (h .1) ∙ inf-grown))
     go (inl h) =
         let n0 = lt-of-lt-of-le U-pos ge in
-        let i = fine-pos y n (h .1) n0 in
-        let q = root-val y n (add-fits B f1 t) i n0 in
-        let r = rootOf-err n n0 (h .0) in
-        let ρ = r .0 in
-        let x = sqrt (max y f0) in
-        let is-root : x ≡ rootOfUnits B n = ap (λ (z : Float). sqrt z) (q .1) ∙ q .0 in
-        let ix : Is x false ρ = subst (λ (z : Float). Is z false ρ) (sym is-root) (r .1) in
-        let fx : Fin x = (is-finite x false ρ ix, root-fits (max y f0) n is-root) in
-        let hx = is-of x (fx .0) (fx .1) in
-        let mx : mag x ≡ ρ = is-same x (sign x) false (mag x) ρ (hx .0) ix .1 in
+        let r = rooted y n (add-fits B f1 t) (fine-pos y n (h .1) n0) n0 (h .0) in
+        let x = sqrt y in
+        let ρ = mag x in
+        let held = is-of x (r .fin .0) (r .fin .1) .1 in
         let δ = rnd 53 (ρ - U) 1 in
-        let d : Ext (x ⊖ f1) δ = sub-fine x f1 ρ U (false, ix, refl) fine-one (root-ge n ρ (r .2) ge) in
-        let held : rnd 53 ρ 1 ≡ ρ = subst (λ (z : ℕ). rnd 53 z 1 ≡ z) mx (hx .1 .0) in
-        let dO : δ < O = lt-of-le-of-lt (rnd-le ρ (ρ - U) 1 (lit< tt) held (less ρ U)) (subst (λ (z : ℕ). z < O) mx (hx .1 .1)) in
-        (rnd 53 (δ * U) (2 * U), div-ext (x ⊖ f1) f2 δ (2 * U) (fine-under (x ⊖ f1) δ d dO) two-fine (mul-pos (lit< tt) U-pos))
+        let d : Ext (x ⊖ f1) δ = sub-fine x f1 ρ U (false, r .is, refl) unit-fine (root-ge n ρ (r .err) ge) in
+        let dO : δ < O = lt-of-le-of-lt (rnd-le ρ (ρ - U) 1 (lit< tt) (held .0) (less ρ U)) (held .1) in
+        rw (r .kept) (rnd 53 (δ * U) (2 * U), div-ext (x ⊖ f1) f2 δ (2 * U) (fine-under (x ⊖ f1) δ d dO) two-fine (mul-pos (lit< tt) U-pos))
       where
         less : (r u : ℕ) → r - u ≤ r * 1
         less r u = omega arith
@@ -339,11 +324,8 @@ recip : (s : Float) → T (fits B s) → T (le f0 s) → T (finite (f1 ⊘ (f1 �
 recip s f low =
     let a = size-of s f low in
     let n = rnd 53 (U + a .0) 1 in
-    let h = recip-le (f1 ⊕ s) n (add-ext f1 s U (a .0) unit-ext (a .1)) (rnd-ge U (U + a .0) 1 (lit< tt) (U-held .0) (lin U (a .0))) in
+    let h = recip-le (f1 ⊕ s) n (add-ext f1 s U (a .0) unit-ext (a .1)) (rnd-ge U (U + a .0) 1 (lit< tt) (U-held .0) (omega arith)) in
     (h .0, h .1)
-  where
-    lin : (u p : ℕ) → u * 1 ≤ u + p
-    lin u p = omega arith
 
 pub weight-share : (a : Vec2) (wo wi wh : Vec3) → Rough a → Span reach wo → Span reach wi → Share (gOverG1 a wo wi wh)
 unfolding gOverG1 g1 g masked

@@ -1,7 +1,7 @@
 -- A term that is computed once and handed on changes nothing: from it each form of specs/SharedTerms.antt is its formula.
 -- The cosine wo · wh stands for wh · wo, by `dot-comm`. Where a surface scatters into one direction its density doesn't read Λ(wo), so
 -- that any number does there (`metal-density`, `glass-density`).
-use mathlib.Core.Path.{_≡_, refl, ap}
+use mathlib.Core.Path.{_≡_, refl}
 use mathlib.Core.Bool.{Bool, true, false, cond}
 use lib.Ieee.{Float, eq}
 use Rattle.numbers.specs.Float.{_⊕_, _⊘_, f0, f1}

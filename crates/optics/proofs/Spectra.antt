@@ -8,21 +8,21 @@ use mathlib.Core.List.{List}
 use Prim.Native.Nat.{ℕ, zero, suc, _-_, _*_, _≤_, _<_, zero-le}
 use native.Mathlib.Nat.{le-trans, le-of-eq, lt-of-le-of-lt, lt-of-lt-of-le, not-le-of-lt, mul-pos, zero-lt-suc}
 use native.Mathlib.Omega.{arith}
-use lib.Dec.{T, eqb, eqb→eq, lit≤, lit<}
+use lib.Dec.{T, eqb, eqb→eq, lit<}
 use lib.ListN.{length}
 use lib.Ieee.{Float, nan, inf, fin, Format, binary64, up, down, le, eq, fits}
 use lib.Ieee.Fits.{and-l, and-r, and-i, eq→eqb, div-fits, sub-fits}
 use Rattle.numbers.proofs.Rounding.{rnd}
-use Rattle.numbers.proofs.Units.{U, O, U-pos, U-O, mag, either}
-use Rattle.numbers.proofs.NonNegative.{Ext, Fine, mul-ext, add-ext, nil-ext, fine-of, rnd-zero, share-of}
-use Rattle.numbers.proofs.Error.{Fin, N}
-use Rattle.numbers.proofs.Interpolation.{readMost, Read, Index, read-index, AllFit, Place, range-of, fine-N, dense-place, entry-every, sample-index, wave-in-table}
-use Rattle.numbers.proofs.Shares.{shares}
+use Rattle.numbers.proofs.Rounding.Units.{U, O, U-pos, U-O, either}
+use Rattle.numbers.proofs.Rounding.NonNegative.{Ext, Fine, mul-ext, add-ext, nil-ext, fine-of, rnd-zero, share-of}
+use Rattle.numbers.proofs.dense_spectrum.Interpolation.{Read, Index, read-index, AllFit, Place, range-of, dense-place, sample-index, wave-in-table}
+use Rattle.numbers.proofs.Rounding.Shares.{shares}
 use Rattle.numbers.specs.Float.{_⊕_, _⊖_, _⊗_, f0, f1, decimal, within}
 use Rattle.numbers.specs.DenseSpectrum.{denseSamples, isTable, denseStep, terminated, entry, interpolate, upperPoint, upperLambda, upperWeight, sampleOneAt, sampleOne, allWithin, isWavelength}
-use Rattle.optics.specs.Surface.{etaMin, etaMax, isEta, etaHolds, allZero, kEntriesHold, kHolds, etaAt, kAt}
+use Rattle.optics.specs.Surface.{etaMin, etaMax, etaHolds, allZero, kEntriesHold, kHolds, etaAt, kAt}
 use Rattle.optics.specs.declared.microfacet.Kind.the-variants.{Glass}
-use Rattle.optics.proofs.Sizes.{f0-upto, f0-parts}
+use Rattle.numbers.proofs.Rounding.Sizes.{f0-upto, f0-parts, fine-N}
+use Rattle.numbers.proofs.dense_spectrum.Every.{entry-every}
 
 abbrev B : Format
 B = binary64
@@ -59,7 +59,7 @@ zero-eq (inf s) (inl h) = absurd (h .1 .1)
 zero-eq (fin s m e) (inl h) =
     let a = m * up e * 1 in
     let none : a ≡ 0 = null (m * up e) (down e) U (h .1 .1 .1) U-pos in
-    let level = eq→eqb {a = a} {b = 0 * 1 * down e} (none ∙ sym (zeros (down e))) in
+    let level = eq→eqb {a = a} {b = 0 * 1 * down e} (none ∙ sym (omega arith)) in
     and-i (eqb a (0 * 1 * down e)) (Bool·beq s false || eqb a 0) level (either (Bool·beq s false) (eqb a 0) (inr (eq→eqb none)))
   where
     null : (a d u : ℕ) → a * u ≡ 0 * d → 0 < u → a * 1 ≡ 0
@@ -69,27 +69,18 @@ zero-eq (fin s m e) (inl h) =
         none : (d : ℕ) → 0 * d ≡ 0
         none d = omega arith
 
-    zeros : (d : ℕ) → 0 * 1 * d ≡ 0
-    zeros d = omega arith
-
 zero-entry : (x : Float) → T (fits B x) → T (within f0 f0 x) → Fine x 0
 unfolding within
 zero-entry x f h =
     let low = and-l (le f0 x) (le x f0) h in
     let high = and-r (le f0 x) (le x f0) h in
     let r = range-of f0 f0 x (f0-upto .fin) (f0-upto .fin) (f0-parts .1) (f0-parts .1) f low high in
-    subst (λ (n : ℕ). Fine x n) (none (mag x) (le-trans (r .high) (le-of-eq (f0-parts .2)))) (fine-N x (r .fin) (r .above))
-  where
-    none : (n : ℕ) → n ≤ 0 → n ≡ 0
-    none n h = omega arith
+    subst (λ (n : ℕ). Fine x n) (omega (arith, le-trans (r .high) (le-of-eq (f0-parts .2)))) (fine-N x (r .fin) (r .above))
 
 zero-product : (i y : Float) (b : ℕ) → Fine i 0 → Fine y b → Zero (i ⊗ y)
 zero-product i y b hi hy =
     let p = mul-pos U-pos U-pos in
-    subst (λ (n : ℕ). Ext (i ⊗ y) n) (ap (λ (n : ℕ). rnd 53 n (U * U)) (null b U) ∙ rnd-zero (U * U) p) (mul-ext i y 0 b hi hy)
-  where
-    null : (b u : ℕ) → 0 * b * u ≡ 0
-    null b u = omega arith
+    subst (λ (n : ℕ). Ext (i ⊗ y) n) (ap (λ (n : ℕ). rnd 53 n (U * U)) (omega arith) ∙ rnd-zero (U * U) p) (mul-ext i y 0 b hi hy)
 
 zero-between : (x i₀ i₁ : Float) → T (fits B x) → T (le f0 x) → T (le x f1) → Fine i₀ 0 → Fine i₁ 0 → Zero (interpolate x i₀ i₁)
 unfolding interpolate

@@ -88,7 +88,7 @@ fn is_eta(eta: f64) -> bool
 fn eta_holds(eta: &[f64]) -> bool
     ensures { λ r. ⌜ r ≡ etaHolds (now (eta .entry)) ⌝ }
 {
-    dense_spectrum::is_table(eta) & dense_spectrum::all_within(eta, ETA_MIN, ETA_MAX)
+    dense_spectrum::is_table(eta) && dense_spectrum::all_within(eta, ETA_MIN, ETA_MAX)
 }
 
 fn all_zero(k: &[f64]) -> bool
@@ -114,7 +114,7 @@ fn k_entries_hold(kind: Kind, k: &[f64]) -> bool
 fn k_holds(kind: Kind, k: &[f64]) -> bool
     ensures { λ r. ⌜ r ≡ kHolds kind (now (k .entry)) ⌝ }
 {
-    dense_spectrum::is_table(k) & k_entries_hold(kind, k)
+    dense_spectrum::is_table(k) && k_entries_hold(kind, k)
 }
 
 // ---- checks of one argument
@@ -200,7 +200,7 @@ pub fn make_surface(kind: Kind, roughness: f64, eta: &[f64], k: &[f64]) -> Surfa
     }
     let raised = Vec2::splat(float::max(roughness, ROUGHNESS_MIN));
     SurfaceAnswer::Given(Surface {
-        kind: kind,
+        kind,
         roughness: raised,
     })
 }
@@ -213,9 +213,7 @@ pub fn is_delta(surface: Surface, eta: &[f64], k: &[f64]) -> BoolAnswer
         return BoolAnswer::Refused(why);
     }
     let roughness = surface.roughness;
-    let facets = Ggx {
-        roughness: roughness,
-    };
+    let facets = Ggx { roughness };
     BoolAnswer::Given(facets.is_delta())
 }
 
@@ -227,9 +225,7 @@ pub fn lambda(surface: Surface, eta: &[f64], k: &[f64], w: Vec3) -> FloatAnswer
         return FloatAnswer::Refused(why);
     }
     let roughness = surface.roughness;
-    let facets = Ggx {
-        roughness: roughness,
-    };
+    let facets = Ggx { roughness };
     FloatAnswer::Given(facets.lambda(w))
 }
 
@@ -255,9 +251,7 @@ pub fn g1(surface: Surface, eta: &[f64], k: &[f64], wo: Vec3, wh: Vec3) -> Float
         return FloatAnswer::Refused(why);
     }
     let roughness = surface.roughness;
-    let facets = Ggx {
-        roughness: roughness,
-    };
+    let facets = Ggx { roughness };
     FloatAnswer::Given(facets.g1(wo, wh))
 }
 
@@ -272,9 +266,7 @@ pub fn g(surface: Surface, eta: &[f64], k: &[f64], wo: Vec3, wi: Vec3, wh: Vec3)
         return FloatAnswer::Refused(why);
     }
     let roughness = surface.roughness;
-    let facets = Ggx {
-        roughness: roughness,
-    };
+    let facets = Ggx { roughness };
     FloatAnswer::Given(facets.g(wo, wi, wh))
 }
 
@@ -286,9 +278,7 @@ pub fn d(surface: Surface, eta: &[f64], k: &[f64], wh: Vec3) -> FloatAnswer
         return FloatAnswer::Refused(why);
     }
     let roughness = surface.roughness;
-    let facets = Ggx {
-        roughness: roughness,
-    };
+    let facets = Ggx { roughness };
     FloatAnswer::Given(facets.d(wh))
 }
 
@@ -307,9 +297,7 @@ pub fn disney_diffuse(
         return FloatAnswer::Refused(why);
     }
     let roughness = surface.roughness;
-    let facets = Ggx {
-        roughness: roughness,
-    };
+    let facets = Ggx { roughness };
     FloatAnswer::Given(facets.disney_diffuse(cos_theta_wo, cos_theta_wi, cos_theta_wh))
 }
 
@@ -368,9 +356,7 @@ pub fn sample_normal(
         return Vec3Answer::Refused(why);
     }
     let roughness = surface.roughness;
-    let facets = Ggx {
-        roughness: roughness,
-    };
+    let facets = Ggx { roughness };
     Vec3Answer::Given(facets.sample_normal(wo, disk, c, s))
 }
 
@@ -426,8 +412,6 @@ pub fn pdf(
     let at = microfacet::optical_constants(eta, k, lambda);
     let kind = surface.kind;
     let roughness = surface.roughness;
-    let facets = Ggx {
-        roughness: roughness,
-    };
+    let facets = Ggx { roughness };
     finite_only(bxdf::pdf(kind, facets, wo, wi, reflection, at.eta, at.k))
 }

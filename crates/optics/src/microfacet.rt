@@ -329,8 +329,8 @@ fn on_hemisphere(v: Vec3, r: f64, c: f64, s: f64) -> Vec3
     let y = (1.0 - lerp) * h + lerp * r * s;
 
     Vec3 {
-        x: x,
-        y: y,
+        x,
+        y,
         z: sqrt_or_zero(rest - y * y),
     }
 }

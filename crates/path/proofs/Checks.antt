@@ -5,7 +5,7 @@ use lib.Dec.{T}
 use Rattle.numbers.specs.Vec3.{isDirection}
 use Rattle.numbers.specs.Refusal.{accepted}
 use Rattle.numbers.specs.Checked.{checkDirection}
-use Rattle.numbers.proofs.Checks.{test-passed, first-passed, next-passed}
+use Rattle.numbers.proofs.refusal.Checks.{test-passed, first-passed, next-passed}
 use Rattle.optics.specs.Surface.{Microsurface, roughnessHolds, etaHolds, kHolds}
 use Rattle.optics.specs.Checked.{checkSpectra, checkSurface, checkRandom, checkCirclePair, isRandom, isCirclePair}
 use Rattle.optics.specs.Color.{all4}

@@ -1,21 +1,20 @@
 -- Demand 3 of the contract (`Demand3` of specs/Demand3.antt): for every path that starts with powers 1.0 and every list of bounces on it, after every bounce each power is a number from 0 to what it was
 -- and equals the reckoning's to the last bit, on glass the shares lie from 0 to 1 and add up to exactly 1.0, and each density handed out is finite and not below 0.
 -- By induction on the list: a path whose powers are numbers from 0 to 1 (`Ready`) goes to such a path, since each weight is a number from 0 to 1.
-use Prim.Native.Nat.{ℕ}
 use native.Mathlib.Nat.{le-refl, lt-of-le-of-lt}
-use mathlib.Core.Path.{_≡_, refl, sym, ap, _∙_, subst}
+use mathlib.Core.Path.{_≡_, refl, sym, _∙_, subst}
 use mathlib.Core.Logic.{inl}
 use mathlib.Core.Bool.{Bool, true, false, _&&_, cond}
 use mathlib.Core.List.{List}
 use lib.Dec.{T}
-use lib.Ieee.{Float, binary64, fits, le}
+use lib.Ieee.{Float, fits, le}
 use lib.Ieee.Fits.{and-l, and-r}
-use Rattle.numbers.specs.Float.{_⊗_, f0, f1, within, isFinite}
+use Rattle.numbers.specs.Float.{f0, f1, within, isFinite}
 use Rattle.numbers.specs.Onb.{basis, toWorld}
 use Rattle.numbers.specs.declared.vec3.Vec3.{Vec3}
-use Rattle.numbers.proofs.Units.{U-O}
-use Rattle.numbers.proofs.NonNegative.{Ext, share-of, ext-le}
-use Rattle.optics.specs.Surface.{Microsurface, constantEta, etaAt, kAt}
+use Rattle.numbers.proofs.Rounding.Units.{U-O}
+use Rattle.numbers.proofs.Rounding.NonNegative.{Ext, share-of, ext-le}
+use Rattle.optics.specs.Surface.{Microsurface, constantEta}
 use Rattle.optics.specs.Bxdf.{Scattered, scattered, totally, rest}
 use Rattle.optics.specs.Bxdf as Bxdf
 use Rattle.optics.specs.Density.{pdf}
@@ -26,15 +25,14 @@ use Rattle.optics.specs.declared.microfacet.Kind.the-variants.{Metal, Glass}
 use Rattle.optics.proofs.Densities.{density-not-below}
 use Rattle.path.specs.declared.records.Path.{Path}
 use Rattle.path.specs.declared.records.Bounce.{Bounce}
-use Rattle.path.specs.declared.records.Bounced.{Bounced}
 use Rattle.path.specs.declared.records.Density.the-variants as D
 use Rattle.optics.specs.Color.{all4}
 use Rattle.path.specs.Path.{path, ones, leading, terminate, isFilter, weighed}
-use Rattle.path.specs.Bounce.{advanced, checkBounce, leftOnGlass, leftOn, lambdaOn, localWo, facet, fresnelAt, share, scatter, weightFrom, weightsFrom, weights}
+use Rattle.path.specs.Bounce.{advanced, checkBounce, leftOnGlass, leftOn, lambdaOn, localWo, share, scatter, weightsFrom, weights}
 use Rattle.path.specs.Reckoning.{unlessRefused, reckon}
-use Rattle.path.specs.Answer.{Outcome, refusal, lost, reflected, passed, outcome, densityOf, density, sharesOn, shares, branchOf, worked, onSurface, answered, bounce, pathOf}
-use Rattle.path.specs.Demand3.{F64, ColorF64, Step, StepF64, AllFell, SharesHold, DensityHolds, AnswerHolds, Holds, Run, end, bounced, Throughout, Demand3, NeverTotal}
-use Rattle.path.proofs.Checks.{Accepted, accepted-of}
+use Rattle.path.specs.Answer.{Outcome, lost, outcome, densityOf, density, sharesOn, shares, branchOf, worked, onSurface, answered, bounce, pathOf}
+use Rattle.path.specs.Demand3.{F64, ColorF64, Step, StepF64, AllFell, SharesHold, DensityHolds, AnswerHolds, Run, end, bounced, Throughout, Demand3, NeverTotal}
+use Rattle.path.proofs.Checks.{accepted-of}
 use Rattle.path.proofs.Weights.{Weight, whole, weighed-down, weight-from}
 use Rattle.path.proofs.Sampled.{Given, all-fit, leading-fits, leading-in, shares-hold, never-total, shadowing-weight}
 

@@ -1,31 +1,30 @@
 -- What is sampled at an accepted bounce: local wo and the facet's normal are finite and near unit length (`local-wo`, `facet-unitary`), a bend never answers "total" (`never-total`),
 -- a sampled direction is finite (`direction-span`), so that the shadowing q is a weight (`shadowing-weight`), and on glass the shares lie from 0 to 1 and add up to 1 exactly (`shares-hold`).
 -- Each is a law of optics, for the fields that the checks passed.
-use Prim.Native.Nat.{ℕ, zero, suc}
-use mathlib.Core.Path.{_≡_, refl, sym, ap, _∙_, subst}
-use mathlib.Core.Bool.{Bool, true, false, _&&_, cond}
+use Prim.Native.Nat.{zero, suc}
+use mathlib.Core.Path.{_≡_, refl, subst}
+use mathlib.Core.Bool.{Bool, true, false, cond}
 use mathlib.Core.List.{List, [], _∷_}
 use lib.Dec.{T, lit≤}
-use lib.Ieee.{Float, nan, binary64, fits, lt, le, eq}
-use lib.Ieee.Fits.{and-l, and-r, cond-fits, div-fits}
+use lib.Ieee.{Float, binary64, fits, lt, le, eq}
+use lib.Ieee.Fits.{and-r, cond-fits, div-fits}
 use lib.Ieee.Scale.{finite}
 use Rattle.numbers.specs.Float.{_⊘_, f0, f1}
 use Rattle.numbers.specs.Vec3.{Z}
-use Rattle.numbers.specs.Onb.{basis, toLocal}
-use Rattle.numbers.specs.DenseSpectrum.{isWavelength, isLookupWavelength, entry}
+use Rattle.numbers.specs.DenseSpectrum.{isWavelength, isLookupWavelength}
 use Rattle.numbers.specs.declared.vec3.Vec3.{Vec3}
-use Rattle.numbers.proofs.Direction.{Direction}
-use Rattle.numbers.proofs.Interpolation.{AllFit, Index}
-use Rattle.optics.specs.Surface.{Microsurface, constantEta, etaAt, kAt, etaHolds, kHolds}
+use Rattle.numbers.proofs.vec3.Direction.{Direction}
+use Rattle.numbers.proofs.dense_spectrum.Interpolation.{AllFit, Index}
+use Rattle.optics.specs.Surface.{Microsurface, constantEta, kAt, kHolds}
 use Rattle.optics.specs.Facets.{isDelta, g1, g, gOverG1}
-use Rattle.optics.specs.Fresnel.{fAt}
 use Rattle.optics.specs.Sampler.{sampleNormal}
-use Rattle.optics.specs.Bxdf.{Scattered, scattered, lost, totally, conductorNormal, conductorFrom, isSmooth, dielectricNormal, dielectricFrom}
+use Rattle.optics.specs.Bxdf.{Scattered, scattered, lost, totally, conductorNormal, conductorFrom, isSmooth, dielectricNormal}
 use Rattle.optics.specs.Checked.{isRandom}
 use Rattle.optics.specs.declared.color.Color.{Color}
 use Rattle.optics.specs.declared.microfacet.Kind.{Kind}
 use Rattle.optics.specs.declared.microfacet.Kind.the-variants.{Metal, Glass}
-use Rattle.optics.proofs.Sizes.{Span, widen3}
+use Rattle.numbers.proofs.Rounding.Sizes.{Span, widen3}
+use Rattle.numbers.proofs.Rounding.Units.{each}
 use Rattle.optics.proofs.SampledNormal.{Rough, Disk, Local, local-of, local-span, Unitary, sampled-normal, z-unitary}
 use Rattle.optics.proofs.Fresnel.{reach}
 use Rattle.optics.proofs.Glass.{Shares, glass-shares, glass-never-total, glass-direction, metal-outcome, Outcome}
@@ -35,7 +34,7 @@ use Rattle.path.specs.declared.records.Path.{Path}
 use Rattle.path.specs.declared.records.Bounce.{Bounce}
 use Rattle.path.specs.Path.{leading, terminate, isPathLambda}
 use Rattle.path.specs.Bounce.{leftOnGlass, leftOn, lambdaOn, localWo, leadingEta, facetOf, facet, fresnelAt, share, scatterOn, scatter, oneDirection, shadowing, shadowingOn}
-use Rattle.path.specs.Demand3.{F64, Vec3F64, ColorF64, AllF64, Step, StepF64}
+use Rattle.path.specs.Demand3.{ColorF64, AllF64, StepF64}
 use Rattle.path.proofs.Checks.{Accepted}
 use Rattle.path.proofs.Weights.{Weight, whole}
 
@@ -62,10 +61,7 @@ leading-stays m lambda = leading-left (m .kind) (m .eta) lambda
 
 in-range : (lambda : Color) → T (isPathLambda lambda) → T (isWavelength (leading lambda))
 unfolding isPathLambda leading
-in-range lambda t = first (isWavelength (lambda .s0)) (isLookupWavelength (lambda .s1)) (isLookupWavelength (lambda .s2)) (isLookupWavelength (lambda .s3)) t
-  where
-    first : (a b c d : Bool) → T (a && b && c && d) → T a
-    first true b c d t = tt
+in-range lambda t = each (isWavelength (lambda .s0)) (isLookupWavelength (lambda .s1)) (isLookupWavelength (lambda .s2)) (isLookupWavelength (lambda .s3)) t .0
 
 -- ---- a bounce that was accepted, on a path and with arguments of binary64
 pub record Given (p : Path) (m : Microsurface) (b : Bounce) : Type 0 where

@@ -11,7 +11,7 @@ use lib.Ieee.{Float, fin, binary64, add, sub, mul, div, neg, lt, le, eq, isNan, 
 use Rattle.numbers.specs.Float.{f0, f1, f2, f-1, decimal, epsilon, within, max, signum, isFinite}
 use Rattle.numbers.specs.SquareRoot.{squareRoot}
 use Rattle.numbers.specs.Vec2.{splat}
-use Rattle.numbers.specs.Vec3.{vec3, Z, dot, floatMul, divFloat, mulFloat, negate, lengthSquared, length, normalize, projectOnto, isDirection}
+use Rattle.numbers.specs.Vec3.{vec3, Z, dot, floatMul, divFloat, negate, lengthSquared, length, normalize, projectOnto, isDirection}
 use Rattle.numbers.specs.Vec3 as V3
 use Rattle.numbers.specs.Onb.{slope, skew, basis, toLocal, toWorld}
 use Rattle.numbers.specs.SphericalUtils.{cosTheta, sameHemisphere}
@@ -81,11 +81,11 @@ abbrev smooth : Vec2
 smooth = splat (max f0 roughnessMin)
 
 smooth-holds : roughnessHolds smooth ≡ true
-unfolding roughnessHolds isRoughness splat max roughnessMin decimal within isNan lt le
+unfolding roughnessHolds isRoughness max roughnessMin decimal within isNan lt le
 smooth-holds = refl
 
 smooth-delta : isDelta smooth ≡ true
-unfolding isDelta splat max roughnessMin decimal isNan lt add div
+unfolding isDelta max roughnessMin decimal isNan lt add div
 smooth-delta = refl
 
 length-holds : (x : Float) → isTable (constant x) ≡ true
@@ -209,7 +209,7 @@ passes-at = refl
 
 -- mirrored about Z
 reflect-Z : reflect Z Z ≡ direction Z
-unfolding reflect mirrored projectOnto lengthSquared dot floatMul mulFloat divFloat V3.sub sameHemisphere cosTheta add sub mul div neg lt
+unfolding reflect mirrored projectOnto lengthSquared dot floatMul divFloat V3.sub sameHemisphere cosTheta add sub mul div neg lt
 reflect-Z = refl
 
 world-Z : toWorld (basis Z) Z ≡ Z
@@ -234,11 +234,11 @@ module _ (a : Vec2) (delta : isDelta a ≡ true) where
   smooth-3 = delta
 
   reflected-density : dielectricPdf a f3 f0 true Z Z ≡ quarter
-  unfolding dielectricPdf dielectricPdfFrom etaRatio dielectricHalf onZSide isDiscarded reflectedPdf atZ rest fAt normalize length lengthSquared dot divFloat mulFloat negate V3.add cosTheta epsilon decimal max isNan squareRoot add sub mul div neg lt eq
+  unfolding dielectricPdf dielectricPdfFrom etaRatio dielectricHalf onZSide isDiscarded reflectedPdf atZ rest fAt normalize length lengthSquared dot divFloat negate V3.add cosTheta epsilon decimal max isNan squareRoot add sub mul div neg lt eq
   reflected-density = rw (fresnel-3, smooth-3)
 
   passed-density : dielectricPdf a f3 f0 false Z -Z ≡ three-quarters
-  unfolding dielectricPdf dielectricPdfFrom etaRatio dielectricHalf onZSide isDiscarded passedPdf atZ rest fAt normalize length lengthSquared dot divFloat mulFloat negate V3.add cosTheta epsilon decimal max isNan squareRoot add sub mul div neg lt eq
+  unfolding dielectricPdf dielectricPdfFrom etaRatio dielectricHalf onZSide isDiscarded passedPdf atZ rest fAt normalize length lengthSquared dot divFloat negate V3.add cosTheta epsilon decimal max isNan squareRoot add sub mul div neg lt eq
   passed-density = rw (fresnel-3, smooth-3)
 
 module _ (a : Vec2) (eta k : List Float) (delta : isDelta a ≡ true) (same : constantEta eta ≡ true) (eta-3 : Reads eta f3) (k-0 : Reads k f0) where

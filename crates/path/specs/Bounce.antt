@@ -1,6 +1,5 @@
 -- A bounce on metal or glass: its checks, what is sampled, and the weight of each wavelength (document 01, "Bounce"). Definitions only.
 -- `lambda` is the path's wavelengths that are left: on glass whose eta varies, two to four have ended.
-use Prim.Native.Nat.{ℕ}
 use mathlib.Core.Bool.{Bool, cond}
 use mathlib.Core.List.{List}
 use lib.Ieee.{Float, isNan, le, eq}
@@ -20,8 +19,6 @@ use Rattle.optics.specs.Checked.{checkSurface, checkRandom, checkCirclePair}
 use Rattle.optics.specs.declared.color.Color.{Color}
 use Rattle.optics.specs.declared.microfacet.Kind.{Kind}
 use Rattle.optics.specs.declared.microfacet.Kind.the-variants.{Metal, Glass}
-use Rattle.path.specs.declared.bsdf.Constant.{Constant}
-use Rattle.path.specs.declared.bsdf.Constant.the-variants.{Known, Unknown}
 use Rattle.path.specs.declared.records.Path.{Path}
 use Rattle.path.specs.declared.records.Bounce.{Bounce}
 use Rattle.path.specs.Path.{path, each2, each3, weighed, leading, terminate, isPathLambda, isPower, isFilter}
@@ -46,11 +43,6 @@ checkBounce p m b = checkSurface m then checkRest p b
 -- ---- wavelengths two to four end on glass whose eta isn't constant
 unfoldable pub leftOnGlass : List Float → Color → Color
 leftOnGlass eta lambda = cond (constantEta eta) lambda (terminate lambda)
-
--- whether eta is constant, from what is known of it
-unfoldable pub constantFrom : Constant → List Float → Bool
-constantFrom (Known constant) eta = constant
-constantFrom Unknown eta = constantEta eta
 
 unfoldable pub leftOn : Kind → List Float → Color → Color
 leftOn Metal eta lambda = lambda

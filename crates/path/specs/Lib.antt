@@ -2,6 +2,7 @@
 pub mod Path
 pub mod Bounce
 pub mod Answer
+pub mod Known
 pub mod Plain
 pub mod Many
 pub mod Reckoning

@@ -32,7 +32,8 @@ ghost use Rattle.optics.specs.Bxdf.{isSmooth};
 ghost use Rattle.optics.specs.Density.{conductorPdf, dielectricPdf};
 ghost use Rattle.optics.specs.declared.microfacet.Kind.the-variants.{Metal, Glass};
 ghost use Rattle.path.specs.Path.{path, weighed};
-ghost use Rattle.path.specs.Bounce.{constantFrom, leftOnGlass, shadowing};
+ghost use Rattle.path.specs.Bounce.{leftOnGlass, shadowing};
+ghost use Rattle.path.specs.Known.{constantFrom};
 ghost use Rattle.path.specs.Answer.{outcome, lost, densityOf, onSurface, bounce};
 
 // A bounce of `path` on a surface, whose spectra `eta` and `k` are lent beside it.
@@ -63,17 +64,8 @@ pub(crate) fn bounce_with(
     requires { ⌜ (verdict check ≡ checkSurface (microsurface surface (now eta) (now k))) × (constantFrom constant (now eta) ≡ constantEta (now eta)) ⌝ }
     ensures { λ r. ⌜ outcome r ≡ bounce path (microsurface surface (now (eta .entry)) (now (k .entry))) b ⌝ }
 {
-    if let Check::Refused(why) = check {
-        return Bounced::Refused {
-            why: why,
-            path: path,
-        };
-    }
-    if let Check::Refused(why) = check::check_rest(path, b) {
-        return Bounced::Refused {
-            why: why,
-            path: path,
-        };
+    if let Check::Refused(why) = check.then(check::check_rest(path, b)) {
+        return Bounced::Refused { why, path };
     }
     let kind = surface.kind;
     match kind {
@@ -114,9 +106,7 @@ fn on_metal(path: Path, surface: Surface, eta: &[f64], k: &[f64], b: Bounce) -> 
     let uvw = Onb::new(b.normal);
     let wo = uvw.to_local(b.wo);
     let roughness = surface.roughness;
-    let mfd = Ggx {
-        roughness: roughness,
-    };
+    let mfd = Ggx { roughness };
     let wh = conductor::normal(wo, mfd, b.disk, b.c, b.s);
     let Sampled::Direction { wi, reflection: _ } = conductor::sample_from(wo, mfd, wh) else {
         return lost(path, Shares::None);
@@ -147,10 +137,7 @@ fn on_glass(
     // wavelengths end before anything reads them
     let lambda = left_on_glass(constant, eta, path.lambda);
     let power = path.power;
-    let left = Path {
-        lambda: lambda,
-        power: power,
-    };
+    let left = Path { lambda, power };
 
     let leading = wavelength::leading_sample(lambda);
     let at = microfacet::optical_constants(eta, k, leading);
@@ -158,9 +145,7 @@ fn on_glass(
     let uvw = Onb::new(b.normal);
     let wo = uvw.to_local(b.wo);
     let roughness = surface.roughness;
-    let mfd = Ggx {
-        roughness: roughness,
-    };
+    let mfd = Ggx { roughness };
     let wh = dielectric::normal(wo, mfd, at.eta, b.disk, b.c, b.s);
     let f = microfacet::f_at(wo, wh, at.eta, at.k);
     let shares = Shares::Of {
@@ -178,15 +163,15 @@ fn on_glass(
     if reflection {
         return Bounced::Reflected {
             wi: world,
-            density: density,
-            shares: shares,
+            density,
+            shares,
             path: left.weighed(weight::weights(lambda, b.ks, seen.q)),
         };
     }
     Bounced::Passed {
         wi: world,
-        density: density,
-        shares: shares,
+        density,
+        shares,
         path: left.weighed(weight::weights(lambda, b.tf, seen.q)),
     }
 }
@@ -236,7 +221,7 @@ fn lost(left: Path, shares: Shares) -> Bounced
     ensures { λ r. ⌜ outcome r ≡ lost shares (path (left .lambda) (weighed (left .power) (color f0 f0 f0 f0))) ⌝ }
 {
     Bounced::Lost {
-        shares: shares,
+        shares,
         path: left.weighed(weight::LOST),
     }
 }

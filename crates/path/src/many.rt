@@ -19,7 +19,7 @@ ghost use lib.Seq.{paste};
 ghost use Rattle.numbers.specs.Refusal.{verdict};
 ghost use Rattle.optics.specs.Checked.{checkSurface};
 ghost use Rattle.optics.specs.Surface.{microsurface, constantEta};
-ghost use Rattle.path.specs.Bounce.{constantFrom};
+ghost use Rattle.path.specs.Known.{constantFrom};
 ghost use Rattle.path.specs.Answer.{outcome};
 ghost use Rattle.path.specs.Many.{isSet, pathIn, bounceIn, numbersOut, bounced, bouncedAt, allBounced, countOf};
 

@@ -69,8 +69,8 @@ fn of_shares(shares: Shares) -> SharesRecord
         Shares::None => NO_SHARES,
         Shares::Of { reflected, passed } => SharesRecord {
             given: 1,
-            reflected: reflected,
-            passed: passed,
+            reflected,
+            passed,
         },
     }
 }
@@ -106,7 +106,7 @@ pub fn of_bounced(answer: Bounced) -> BounceResult
             BounceResult {
                 number: 0,
                 outcome: 2,
-                wi: wi,
+                wi,
                 density: of_density(density),
                 shares: of_shares(shares),
             }
@@ -120,7 +120,7 @@ pub fn of_bounced(answer: Bounced) -> BounceResult
             BounceResult {
                 number: 0,
                 outcome: 3,
-                wi: wi,
+                wi,
                 density: of_density(density),
                 shares: of_shares(shares),
             }

@@ -110,7 +110,7 @@ impl Path {
     {
         if wavelength::is_start(lambda) {
             return Started::Path(Path {
-                lambda: lambda,
+                lambda,
                 power: ONES,
             });
         }
@@ -123,7 +123,7 @@ impl Path {
     {
         let lambda = self.lambda;
         Path {
-            lambda: lambda,
+            lambda,
             power: Color {
                 s0: self.power.s0 * weight.s0,
                 s1: self.power.s1 * weight.s1,

@@ -3,6 +3,6 @@
 // what the caller's memory then holds. None asks anything of its caller but that its pointers are good.
 mod bounces;
 mod paths;
-mod records;
-mod surfaces;
+pub mod records;
+pub mod surfaces;
 mod terms;

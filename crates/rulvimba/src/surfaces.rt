@@ -12,7 +12,7 @@ ghost use mathlib.Core.Path.{_≡_};
 ghost use Rattle.optics.specs.Surface.{kindOf};
 ghost use Rattle.optics.specs.Checked as Checked;
 ghost use Rattle.optics.specs.Checked.{surfaceAnswer};
-ghost use Rattle.rulvimba.specs.Surfaces.{roughnessOf, surfaceOf, surfaceRecord, surfaceWith, surfaceResult};
+ghost use Rattle.rulvimba.specs.Surfaces.{roughnessOf, surfaceOf, surfaceWith, surfaceResult};
 ghost use Rattle.rulvimba.specs.Results.{checkNumber};
 
 #[repr(C)]
@@ -71,7 +71,7 @@ fn of_made(answer: SurfaceAnswer) -> SurfaceResult
                 number: 0,
                 surface: SurfaceRecord {
                     kind: kind.code(),
-                    roughness: roughness,
+                    roughness,
                 },
             }
         }

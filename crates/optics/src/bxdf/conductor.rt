@@ -38,7 +38,7 @@ pub fn sample_from(wo: Vec3, mfd: Ggx, wh: Vec3) -> Sampled
     }
     match bxdf::reflect(wo, wh) {
         Reflected::Direction(wi) => Sampled::Direction {
-            wi: wi,
+            wi,
             reflection: true,
         },
         Reflected::None => Sampled::None,

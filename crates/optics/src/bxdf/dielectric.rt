@@ -17,10 +17,7 @@ ghost use Rattle.optics.specs.SharedTerms.{sampleNormalPdfAt, dielectric
 pub fn is_smooth(mfd: Ggx, eta: f64) -> bool
     ensures { λ r. ⌜ r ≡ isSmooth (mfd .roughness) eta ⌝ }
 {
-    if eta == 1.0 {
-        return true;
-    }
-    mfd.is_delta()
+    eta == 1.0 || mfd.is_delta()
 }
 
 // The facet's normal: Z for delta and index matched glass.
@@ -42,7 +39,7 @@ pub fn sample_from(wo: Vec3, wh: Vec3, eta: f64, pr: f64, rand_u: f64) -> Sample
     if rand_u < pr / (pr + pt) {
         return match bxdf::reflect(wo, wh) {
             Reflected::Direction(wi) => Sampled::Direction {
-                wi: wi,
+                wi,
                 reflection: true,
             },
             Reflected::None => Sampled::None,
@@ -50,7 +47,7 @@ pub fn sample_from(wo: Vec3, wh: Vec3, eta: f64, pr: f64, rand_u: f64) -> Sample
     }
     match bxdf::refract(eta, wo, wh) {
         Refracted::Direction(wi) => Sampled::Direction {
-            wi: wi,
+            wi,
             reflection: false,
         },
         Refracted::None => Sampled::None,

@@ -5,9 +5,7 @@ use Rattle.numbers.specs.Checked.{checkDirection}
 use Rattle.numbers.proofs.checked.check_direction.Statement.{statement}
 use Rattle.numbers.proofs.checked.check_direction.Tie as tie
 
-returns : tie.Need-returns
-unfolding checkDirection number
-returns c = rw (← c .before .is-direction .ensures, ← c .refuse .ensures)
-
 pub check-direction-spec : {M : Type 1} → statement M
-check-direction-spec = tie.close (tie.spec (λ c κs. search needs) (λ c κs. search needs) returns)
+unfolding checkDirection number
+check-direction-spec = tie.close (tie.spec (λ c κs. search needs) (λ c κs. search needs)
+    (λ c. rw (← c .before .is-direction .ensures, ← c .refuse .ensures)))

@@ -5,9 +5,7 @@ use Rattle.numbers.specs.Checked.{checkLookup}
 use Rattle.numbers.proofs.checked.check_lookup.Statement.{statement}
 use Rattle.numbers.proofs.checked.check_lookup.Tie as tie
 
-returns : tie.Need-returns
-unfolding checkLookup number
-returns c = rw (← c .before .is-lookup-wavelength .ensures, ← c .refuse .ensures)
-
 pub check-lookup-spec : {M : Type 1} → statement M
-check-lookup-spec = tie.close (tie.spec (λ c κs. search needs) (λ c κs. search needs) returns)
+unfolding checkLookup number
+check-lookup-spec = tie.close (tie.spec (λ c κs. search needs) (λ c κs. search needs)
+    (λ c. rw (← c .before .is-lookup-wavelength .ensures, ← c .refuse .ensures)))

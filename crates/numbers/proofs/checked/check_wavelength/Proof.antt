@@ -5,9 +5,7 @@ use Rattle.numbers.specs.Checked.{checkWavelength}
 use Rattle.numbers.proofs.checked.check_wavelength.Statement.{statement}
 use Rattle.numbers.proofs.checked.check_wavelength.Tie as tie
 
-returns : tie.Need-returns
-unfolding checkWavelength number
-returns c = rw (← c .before .is-wavelength .ensures, ← c .refuse .ensures)
-
 pub check-wavelength-spec : {M : Type 1} → statement M
-check-wavelength-spec = tie.close (tie.spec (λ c κs. search needs) (λ c κs. search needs) returns)
+unfolding checkWavelength number
+check-wavelength-spec = tie.close (tie.spec (λ c κs. search needs) (λ c κs. search needs)
+    (λ c. rw (← c .before .is-wavelength .ensures, ← c .refuse .ensures)))

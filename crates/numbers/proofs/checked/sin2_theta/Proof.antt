@@ -5,13 +5,8 @@ use Rattle.numbers.specs.Checked.{ofDirection, floatAnswer}
 use Rattle.numbers.proofs.checked.sin2_theta.Statement.{statement}
 use Rattle.numbers.proofs.checked.sin2_theta.Tie as tie
 
-returns : tie.Need-returns
-unfolding ofDirection floatAnswer verdict _▷_
-returns c = rw (← c .before .before .before .check-direction .ensures, c .before .why .given .1)
-
-returns-2 : tie.Need-returns-2
-unfolding ofDirection floatAnswer verdict _▷_
-returns-2 c = rw (← c .before .before .before .check-direction .ensures, c .before .enum-told .given .1, ← c .sin2-theta .ensures)
-
 pub sin2-theta-spec : {M : Type 1} → statement M
-sin2-theta-spec = tie.close (tie.spec (λ c κs. search needs) (λ c. search needs) returns (λ c. search needs) (λ c κs. search needs) returns-2)
+unfolding ofDirection floatAnswer verdict _▷_
+sin2-theta-spec = tie.close (tie.spec (λ c κs. search needs) (λ c. search needs)
+    (λ c. rw (← c .before .before .before .check-direction .ensures, c .before .why .given .1)) (λ c. search needs) (λ c κs. search needs)
+    (λ c. rw (← c .before .before .before .check-direction .ensures, c .before .enum-told .given .1, ← c .sin2-theta .ensures)))

@@ -5,7 +5,7 @@ use mathlib.Core.Path.{sym}
 use lib.ListN.{length}
 use lib.Ieee.{nan, eq}
 use borrow.Author.Needs.{needs}
-use Rattle.numbers.proofs.Every.{Rest, rest-start, rest-next, rest-fails, rest-ends}
+use Rattle.numbers.proofs.dense_spectrum.Every.{Rest, rest-start, rest-next, rest-fails, rest-ends}
 use Rattle.numbers.proofs.dense_spectrum.all_equal.Statement.{statement}
 use Rattle.numbers.proofs.dense_spectrum.all_equal.Tie as tie
 
@@ -15,19 +15,9 @@ Inv-loop first values i₀ i = Rest (eq first) values i
 abbrev μ-loop : tie.MeasureT-loop
 μ-loop first values i₀ i = length values - i
 
-loop-holds : tie.Need-loop-holds Inv-loop μ-loop
-loop-holds c = rest-start _ _
-
-loop-again : tie.Need-loop-again Inv-loop μ-loop
-loop-again c = rest-next _ _ (c .before .before .before .loop .i) nan (c .before .before .before .loop .inv) (omega arith) (c .if1 .taken)
-
-returns : tie.Need-returns Inv-loop μ-loop
-returns c = sym (rest-fails _ _ (c .before .before .before .loop .i) nan (c .before .before .before .loop .inv) (omega arith) (c .if1 .left))
-
-returns-2 : tie.Need-returns-2 Inv-loop μ-loop
-returns-2 c = sym (rest-ends _ _ (c .before .loop .i) (c .before .loop .inv) (omega arith))
-
 pub all-equal-spec : {M : Type 1} → statement M
-all-equal-spec =
-    tie.close
-    (tie.spec Inv-loop μ-loop loop-holds (λ c. search needs) (λ c. search needs) (λ c. omega arith) (λ c. omega arith) loop-again returns returns-2)
+all-equal-spec = tie.close (tie.spec Inv-loop μ-loop (λ c. rest-start _ _) (λ c. search needs) (λ c. search needs) (λ c. omega arith)
+    (λ c. omega arith)
+    (λ c. rest-next _ _ (c .before .before .before .loop .i) nan (c .before .before .before .loop .inv) (omega arith) (c .if1 .taken))
+    (λ c. sym (rest-fails _ _ (c .before .before .before .loop .i) nan (c .before .before .before .loop .inv) (omega arith) (c .if1 .left)))
+    (λ c. sym (rest-ends _ _ (c .before .loop .i) (c .before .loop .inv) (omega arith))))

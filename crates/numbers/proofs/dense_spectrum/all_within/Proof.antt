@@ -7,7 +7,7 @@ use lib.Ieee.{nan}
 use borrow.Author.Needs.{needs}
 use Rattle.numbers.specs.DenseSpectrum.{allWithin}
 use Rattle.numbers.specs.Float.{within}
-use Rattle.numbers.proofs.Every.{Rest, rest-start, rest-next, rest-fails, rest-ends}
+use Rattle.numbers.proofs.dense_spectrum.Every.{Rest, rest-start, rest-next, rest-fails, rest-ends}
 use Rattle.numbers.proofs.dense_spectrum.all_within.Statement.{statement}
 use Rattle.numbers.proofs.dense_spectrum.all_within.Tie as tie
 
@@ -17,9 +17,6 @@ Inv-loop values lo hi i₀ i = Rest (within lo hi) values i
 abbrev μ-loop : tie.MeasureT-loop
 μ-loop values lo hi i₀ i = length values - i
 
-loop-holds : tie.Need-loop-holds Inv-loop μ-loop
-loop-holds c = rest-start _ _
-
 loop-again : tie.Need-loop-again Inv-loop μ-loop
 loop-again c = rest-next _ _ (c .before .before .before .before .loop .i) nan (c .before .before .before .before .loop .inv) (omega arith) (sym (c .before .within .ensures) ∙ c .if1 .taken)
 
@@ -27,12 +24,7 @@ returns : tie.Need-returns Inv-loop μ-loop
 unfolding allWithin
 returns c = sym (rest-fails _ _ (c .before .before .before .before .loop .i) nan (c .before .before .before .before .loop .inv) (omega arith) (sym (c .before .within .ensures) ∙ c .if1 .left))
 
-returns-2 : tie.Need-returns-2 Inv-loop μ-loop
-unfolding allWithin
-returns-2 c = sym (rest-ends _ _ (c .before .loop .i) (c .before .loop .inv) (omega arith))
-
 pub all-within-spec : {M : Type 1} → statement M
-all-within-spec =
-    tie.close
-    (tie.spec Inv-loop μ-loop loop-holds (λ c. search needs) (λ c. search needs) (λ c κs. search needs) (λ c. omega arith) (λ c. omega arith)
-    loop-again returns returns-2)
+unfolding allWithin
+all-within-spec = tie.close (tie.spec Inv-loop μ-loop (λ c. rest-start _ _) (λ c. search needs) (λ c. search needs) (λ c κs. search needs)
+    (λ c. omega arith) (λ c. omega arith) loop-again returns (λ c. sym (rest-ends _ _ (c .before .loop .i) (c .before .loop .inv) (omega arith))))

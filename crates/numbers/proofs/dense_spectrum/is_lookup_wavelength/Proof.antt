@@ -5,13 +5,7 @@ use Rattle.numbers.specs.DenseSpectrum.{isLookupWavelength}
 use Rattle.numbers.proofs.dense_spectrum.is_lookup_wavelength.Statement.{statement}
 use Rattle.numbers.proofs.dense_spectrum.is_lookup_wavelength.Tie as tie
 
-returns : tie.Need-returns
-unfolding isLookupWavelength ofBits
-returns c = rw (c .if1 .taken)
-
-returns-2 : tie.Need-returns-2
-unfolding isLookupWavelength ofBits
-returns-2 c = rw (c .before .if1 .left, ← c .is-wavelength .ensures)
-
 pub is-lookup-wavelength-spec : {M : Type 1} → statement M
-is-lookup-wavelength-spec = tie.close (tie.spec returns (λ c κs. search needs) returns-2)
+unfolding isLookupWavelength ofBits
+is-lookup-wavelength-spec = tie.close (tie.spec (λ c κs. search needs) (λ c. rw (c .if1 .taken))
+    (λ c. rw (c .before .if1 .left, ← c .is-wavelength .ensures)))

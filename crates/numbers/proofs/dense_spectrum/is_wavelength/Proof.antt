@@ -5,9 +5,6 @@ use Rattle.numbers.specs.DenseSpectrum.{isWavelength}
 use Rattle.numbers.proofs.dense_spectrum.is_wavelength.Statement.{statement}
 use Rattle.numbers.proofs.dense_spectrum.is_wavelength.Tie as tie
 
-returns : tie.Need-returns
-unfolding isWavelength ofBits
-returns c = rw (← c .within .ensures)
-
 pub is-wavelength-spec : {M : Type 1} → statement M
-is-wavelength-spec = tie.close (tie.spec (λ c κs. search needs) returns)
+unfolding isWavelength ofBits
+is-wavelength-spec = tie.close (tie.spec (λ c κs. search needs) (λ c. rw (← c .within .ensures)))

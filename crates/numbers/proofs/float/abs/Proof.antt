@@ -2,22 +2,15 @@
 use denote.Floats.{passes}
 use lib.Ieee.{binary64, fits}
 use Rattle.numbers.specs.Float.{abs}
-use Rattle.numbers.proofs.FloatBits.{is-nan, not-nan, abs-bits, abs-not-nan}
+use Rattle.numbers.proofs.float.FloatBits.{is-nan, not-nan, abs-bits, abs-not-nan}
 use Rattle.numbers.proofs.float.abs.Statement.{statement}
 use Rattle.numbers.proofs.float.abs.Tie as tie
-
-returns : tie.Need-returns
-unfolding abs
-returns c = rw (is-nan (c .before .args .x) (c .if1 .taken))
-
-float-to-bits-result : tie.Need-float-to-bits-result
-float-to-bits-result c = not-nan (c .before .args .x) (c .if1 .left)
 
 float-from-bits-result : tie.Need-float-from-bits-result
 float-from-bits-result c = abs-not-nan (c .before .args .x) (passes (fits binary64 (c .before .args .x)) (c .before .good .0 .1)) (not-nan (c .before .args .x) (c .if1 .left))
 
-returns-2 : tie.Need-returns-2
-returns-2 c = abs-bits (c .before .args .x) (passes (fits binary64 (c .before .args .x)) (c .before .good .0 .1))
-
 pub abs-spec : {M : Type 1} → statement M
-abs-spec = tie.close (tie.spec returns float-to-bits-result float-from-bits-result returns-2)
+unfolding abs
+abs-spec = tie.close (tie.spec (λ c. rw (is-nan (c .before .args .x) (c .if1 .taken))) (λ c. not-nan (c .before .args .x) (c .if1 .left))
+    float-from-bits-result
+    (λ c. abs-bits (c .before .args .x) (passes (fits binary64 (c .before .args .x)) (c .before .good .0 .1))))

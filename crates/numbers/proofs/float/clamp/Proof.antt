@@ -1,19 +1,8 @@
--- `numbers::float::clamp` meets its contract: the calls give what their contracts promise, and the definition is read in the same order.
+-- `numbers::float::clamp` meets its contract: by the tests, in the order of the definition.
 use Rattle.numbers.specs.Float.{clamp}
 use Rattle.numbers.proofs.float.clamp.Statement.{statement}
 use Rattle.numbers.proofs.float.clamp.Tie as tie
 
-returns : tie.Need-returns
-unfolding clamp
-returns c = rw (c .if1 .taken)
-
-returns-2 : tie.Need-returns-2
-unfolding clamp
-returns-2 c = rw (c .before .if1 .left, c .if2 .taken)
-
-returns-3 : tie.Need-returns-3
-unfolding clamp
-returns-3 c = rw (c .before .if1 .left, c .if2 .left)
-
 pub clamp-spec : {M : Type 1} → statement M
-clamp-spec = tie.close (tie.spec returns returns-2 returns-3)
+unfolding clamp
+clamp-spec = tie.close (tie.spec (λ c. rw (c .if1 .taken)) (λ c. rw (c .before .if1 .left, c .if2 .taken)) (λ c. rw (c .before .if1 .left, c .if2 .left)))

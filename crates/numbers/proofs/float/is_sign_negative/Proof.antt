@@ -2,19 +2,14 @@
 use denote.Floats.{passes}
 use lib.Ieee.{binary64, fits}
 use Rattle.numbers.specs.Float.{signBit}
-use Rattle.numbers.proofs.FloatBits.{is-nan, not-nan, sign-test}
+use Rattle.numbers.proofs.float.FloatBits.{is-nan, not-nan, sign-test}
 use Rattle.numbers.proofs.float.is_sign_negative.Statement.{statement}
 use Rattle.numbers.proofs.float.is_sign_negative.Tie as tie
-
-returns : tie.Need-returns
-unfolding signBit
-returns c = rw (is-nan (c .before .args .x) (c .if1 .taken))
-
-float-to-bits-result : tie.Need-float-to-bits-result
-float-to-bits-result c = not-nan (c .before .args .x) (c .if1 .left)
 
 returns-2 : tie.Need-returns-2
 returns-2 c = sign-test (c .before .args .x) (passes (fits binary64 (c .before .args .x)) (c .before .good .0 .1)) (not-nan (c .before .args .x) (c .if1 .left))
 
 pub is-sign-negative-spec : {M : Type 1} → statement M
-is-sign-negative-spec = tie.close (tie.spec returns float-to-bits-result returns-2)
+unfolding signBit
+is-sign-negative-spec = tie.close (tie.spec (λ c. rw (is-nan (c .before .args .x) (c .if1 .taken))) (λ c. not-nan (c .before .args .x) (c .if1 .left))
+    returns-2)

@@ -1,20 +1,10 @@
 -- `numbers::float::max` meets its contract: `x != x` is the test for NaN.
 use Rattle.numbers.specs.Float.{max}
-use Rattle.numbers.proofs.FloatBits.{nan-test}
+use Rattle.numbers.proofs.float.FloatBits.{nan-test}
 use Rattle.numbers.proofs.float.max.Statement.{statement}
 use Rattle.numbers.proofs.float.max.Tie as tie
 
-returns : tie.Need-returns
-unfolding max
-returns c = rw (← nan-test, c .if1 .taken)
-
-returns-2 : tie.Need-returns-2
-unfolding max
-returns-2 c = rw (← nan-test, c .before .if1 .left, c .if2 .taken)
-
-returns-3 : tie.Need-returns-3
-unfolding max
-returns-3 c = rw (← nan-test, c .before .if1 .left, c .if2 .left)
-
 pub max-spec : {M : Type 1} → statement M
-max-spec = tie.close (tie.spec returns returns-2 returns-3)
+unfolding max
+max-spec = tie.close (tie.spec (λ c. rw (← nan-test, c .if1 .taken)) (λ c. rw (← nan-test, c .before .if1 .left, c .if2 .taken))
+    (λ c. rw (← nan-test, c .before .if1 .left, c .if2 .left)))

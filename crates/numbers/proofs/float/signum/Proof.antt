@@ -3,22 +3,9 @@ use native.Mathlib.Omega.{arith}
 use denote.Floats.{passes}
 use lib.Ieee.{binary64, fits}
 use Rattle.numbers.specs.Float.{signum}
-use Rattle.numbers.proofs.FloatBits.{is-nan, not-nan, sign-digit, signum-bits, signum-not-nan}
+use Rattle.numbers.proofs.float.FloatBits.{is-nan, not-nan, sign-digit, signum-bits, signum-not-nan}
 use Rattle.numbers.proofs.float.signum.Statement.{statement}
 use Rattle.numbers.proofs.float.signum.Tie as tie
-
-returns : tie.Need-returns
-unfolding signum
-returns c = rw (is-nan (c .before .args .x) (c .if1 .taken))
-
-float-to-bits-result : tie.Need-float-to-bits-result
-float-to-bits-result c = not-nan (c .before .args .x) (c .if1 .left)
-
-mul-result : tie.Need-mul-result
-mul-result c = record { fits = omega (arith, sign-digit (c .before .args .x) (passes (fits binary64 (c .before .args .x)) (c .before .good .0 .1))) }
-
-add-result : tie.Need-add-result
-add-result c = record { fits = omega (arith, sign-digit (c .before .args .x) (passes (fits binary64 (c .before .args .x)) (c .before .good .0 .1))) }
 
 float-from-bits-result : tie.Need-float-from-bits-result
 float-from-bits-result c = signum-not-nan (c .before .args .x) (passes (fits binary64 (c .before .args .x)) (c .before .good .0 .1)) (not-nan (c .before .args .x) (c .if1 .left))
@@ -27,4 +14,8 @@ returns-2 : tie.Need-returns-2
 returns-2 c = signum-bits (c .before .args .x) (passes (fits binary64 (c .before .args .x)) (c .before .good .0 .1)) (not-nan (c .before .args .x) (c .if1 .left))
 
 pub signum-spec : {M : Type 1} → statement M
-signum-spec = tie.close (tie.spec returns float-to-bits-result mul-result add-result float-from-bits-result returns-2)
+unfolding signum
+signum-spec = tie.close (tie.spec (λ c. rw (is-nan (c .before .args .x) (c .if1 .taken))) (λ c. not-nan (c .before .args .x) (c .if1 .left))
+    (λ c. record { fits = omega (arith, sign-digit (c .before .args .x) (passes (fits binary64 (c .before .args .x)) (c .before .good .0 .1))) })
+    (λ c. record { fits = omega (arith, sign-digit (c .before .args .x) (passes (fits binary64 (c .before .args .x)) (c .before .good .0 .1))) })
+    float-from-bits-result returns-2)

@@ -4,9 +4,6 @@ use Rattle.numbers.specs.SphericalUtils.{cos2Theta}
 use Rattle.numbers.proofs.spherical_utils.cos2_theta.Statement.{statement}
 use Rattle.numbers.proofs.spherical_utils.cos2_theta.Tie as tie
 
-returns : tie.Need-returns
-unfolding cos2Theta
-returns c = refl
-
 pub cos2-theta-spec : {M : Type 1} → statement M
-cos2-theta-spec = tie.close (tie.spec returns)
+unfolding cos2Theta
+cos2-theta-spec = tie.close (tie.spec (λ c. refl))

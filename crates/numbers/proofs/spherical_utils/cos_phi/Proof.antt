@@ -5,13 +5,7 @@ use Rattle.numbers.specs.SphericalUtils.{cosPhi}
 use Rattle.numbers.proofs.spherical_utils.cos_phi.Statement.{statement}
 use Rattle.numbers.proofs.spherical_utils.cos_phi.Tie as tie
 
-returns : tie.Need-returns
-unfolding cosPhi ofBits neg
-returns c = rw (← c .before .sin-theta .ensures, c .if1 .taken)
-
-returns-2 : tie.Need-returns-2
-unfolding cosPhi ofBits neg
-returns-2 c = rw (← c .before .before .before .sin-theta .ensures, c .before .before .if1 .left, ← c .clamp .ensures)
-
 pub cos-phi-spec : {M : Type 1} → statement M
-cos-phi-spec = tie.close (tie.spec (λ c κs. search needs) returns (λ c κs. search needs) returns-2)
+unfolding cosPhi ofBits neg
+cos-phi-spec = tie.close (tie.spec (λ c κs. search needs) (λ c. rw (← c .before .sin-theta .ensures, c .if1 .taken)) (λ c κs. search needs)
+    (λ c. rw (← c .before .before .before .sin-theta .ensures, c .before .before .if1 .left, ← c .clamp .ensures)))

@@ -4,9 +4,6 @@ use Rattle.numbers.specs.SphericalUtils.{cosTheta}
 use Rattle.numbers.proofs.spherical_utils.cos_theta.Statement.{statement}
 use Rattle.numbers.proofs.spherical_utils.cos_theta.Tie as tie
 
-returns : tie.Need-returns
-unfolding cosTheta
-returns c = refl
-
 pub cos-theta-spec : {M : Type 1} → statement M
-cos-theta-spec = tie.close (tie.spec returns)
+unfolding cosTheta
+cos-theta-spec = tie.close (tie.spec (λ c. refl))

@@ -5,9 +5,7 @@ use Rattle.numbers.specs.SphericalUtils.{sameHemisphere}
 use Rattle.numbers.proofs.spherical_utils.same_hemisphere.Statement.{statement}
 use Rattle.numbers.proofs.spherical_utils.same_hemisphere.Tie as tie
 
-returns : tie.Need-returns
-unfolding sameHemisphere ofBits
-returns c = rw (← c .before .cos-theta .ensures, ← c .cos-theta2 .ensures)
-
 pub same-hemisphere-spec : {M : Type 1} → statement M
-same-hemisphere-spec = tie.close (tie.spec (λ c κs. search needs) (λ c κs. search needs) returns)
+unfolding sameHemisphere ofBits
+same-hemisphere-spec = tie.close (tie.spec (λ c κs. search needs) (λ c κs. search needs)
+    (λ c. rw (← c .before .cos-theta .ensures, ← c .cos-theta2 .ensures)))

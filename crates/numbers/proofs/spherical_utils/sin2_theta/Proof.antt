@@ -5,9 +5,6 @@ use Rattle.numbers.specs.SphericalUtils.{sin2Theta}
 use Rattle.numbers.proofs.spherical_utils.sin2_theta.Statement.{statement}
 use Rattle.numbers.proofs.spherical_utils.sin2_theta.Tie as tie
 
-returns : tie.Need-returns
-unfolding sin2Theta ofBits
-returns c = rw (← c .before .cos2-theta .ensures, ← c .max .ensures)
-
 pub sin2-theta-spec : {M : Type 1} → statement M
-sin2-theta-spec = tie.close (tie.spec (λ c κs. search needs) (λ c κs. search needs) returns)
+unfolding sin2Theta ofBits
+sin2-theta-spec = tie.close (tie.spec (λ c κs. search needs) (λ c κs. search needs) (λ c. rw (← c .before .cos2-theta .ensures, ← c .max .ensures)))

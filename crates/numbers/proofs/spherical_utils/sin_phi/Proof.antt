@@ -5,13 +5,7 @@ use Rattle.numbers.specs.SphericalUtils.{sinPhi}
 use Rattle.numbers.proofs.spherical_utils.sin_phi.Statement.{statement}
 use Rattle.numbers.proofs.spherical_utils.sin_phi.Tie as tie
 
-returns : tie.Need-returns
-unfolding sinPhi ofBits neg
-returns c = rw (← c .before .sin-theta .ensures, c .if1 .taken)
-
-returns-2 : tie.Need-returns-2
-unfolding sinPhi ofBits neg
-returns-2 c = rw (← c .before .before .before .sin-theta .ensures, c .before .before .if1 .left, ← c .clamp .ensures)
-
 pub sin-phi-spec : {M : Type 1} → statement M
-sin-phi-spec = tie.close (tie.spec (λ c κs. search needs) returns (λ c κs. search needs) returns-2)
+unfolding sinPhi ofBits neg
+sin-phi-spec = tie.close (tie.spec (λ c κs. search needs) (λ c. rw (← c .before .sin-theta .ensures, c .if1 .taken)) (λ c κs. search needs)
+    (λ c. rw (← c .before .before .before .sin-theta .ensures, c .before .before .if1 .left, ← c .clamp .ensures)))

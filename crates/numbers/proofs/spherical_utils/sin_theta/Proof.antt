@@ -4,9 +4,6 @@ use Rattle.numbers.specs.SphericalUtils.{sinTheta}
 use Rattle.numbers.proofs.spherical_utils.sin_theta.Statement.{statement}
 use Rattle.numbers.proofs.spherical_utils.sin_theta.Tie as tie
 
-returns : tie.Need-returns
-unfolding sinTheta
-returns c = rw (← c .before .sin2-theta .ensures, ← c .sqrt .ensures)
-
 pub sin-theta-spec : {M : Type 1} → statement M
-sin-theta-spec = tie.close (tie.spec (λ c κs. search needs) (λ c κs. search needs) returns)
+unfolding sinTheta
+sin-theta-spec = tie.close (tie.spec (λ c κs. search needs) (λ c κs. search needs) (λ c. rw (← c .before .sin2-theta .ensures, ← c .sqrt .ensures)))

@@ -4,9 +4,6 @@ use Rattle.numbers.specs.SphericalUtils.{tanTheta}
 use Rattle.numbers.proofs.spherical_utils.tan_theta.Statement.{statement}
 use Rattle.numbers.proofs.spherical_utils.tan_theta.Tie as tie
 
-returns : tie.Need-returns
-unfolding tanTheta
-returns c = rw (← c .before .sin-theta .ensures, ← c .cos-theta .ensures)
-
 pub tan-theta-spec : {M : Type 1} → statement M
-tan-theta-spec = tie.close (tie.spec (λ c κs. search needs) (λ c κs. search needs) returns)
+unfolding tanTheta
+tan-theta-spec = tie.close (tie.spec (λ c κs. search needs) (λ c κs. search needs) (λ c. rw (← c .before .sin-theta .ensures, ← c .cos-theta .ensures)))

@@ -3,7 +3,7 @@ use mathlib.Core.Path.{_≡_, refl, subst}
 use Prim.Native.Nat.{ℕ, _+_, _-_, _*_, _/_, _^_, _<_, _≤_}
 use native.Mathlib.Omega.{arith}
 use borrow.Author.Needs.{needs}
-use Rattle.numbers.proofs.RootDigits.{Inv, start, finish, bit-small, bit-turn}
+use Rattle.numbers.proofs.square_root.RootDigits.{Inv, start, finish, bit-small, bit-turn}
 use Rattle.numbers.proofs.square_root.digits.Statement.{statement}
 use Rattle.numbers.proofs.square_root.digits.Tie as tie
 
@@ -13,21 +13,12 @@ Inv-loop m root₀ rem₀ w₀ i₀ root rem w i = Inv m root rem w i × (root <
 abbrev μ-loop : tie.MeasureT-loop
 μ-loop m root₀ rem₀ w₀ i₀ root rem w i = 54 - i
 
-loop-holds : tie.Need-loop-holds Inv-loop μ-loop
-loop-holds c = (start (c .args .m) (omega arith), omega arith)
-
 -- what the product with the digit is at most
 small : (c : tie.After-bit Inv-loop μ-loop)
     → (c .before .before .loop .root * 4 + 1) * c .bit .result ≤ c .before .before .loop .rem * 4 + c .before .before .loop .w / 2 ^ 52
 small c =
     bit-small (c .before .before .loop .root * 4 + 1) (c .before .before .loop .rem * 4 + c .before .before .loop .w / 2 ^ 52)
     (c .bit .result) (c .bit .ensures .1)
-
-mul-rem : tie.Need-mul-rem Inv-loop μ-loop
-mul-rem c = omega (arith, small c)
-
-sub-rem : tie.Need-sub-rem Inv-loop μ-loop
-sub-rem c = omega (arith, small c)
 
 loop-again : tie.Need-loop-again Inv-loop μ-loop
 loop-again c =
@@ -45,7 +36,6 @@ returns c =
     finish m (l .root) (l .rem) (l .w) (subst (λ (z : ℕ). Inv m (l .root) (l .rem) (l .w) z) e (l .inv .0))
 
 pub digits-spec : {M : Type 1} → statement M
-digits-spec =
-    tie.close
-    (tie.spec Inv-loop μ-loop loop-holds (λ c. omega arith) (λ c. omega arith) (λ c. omega arith) (λ c. omega arith) (λ c. omega arith)
-    (λ c κs. search needs) mul-rem sub-rem (λ c. omega arith) (λ c. omega arith) (λ c. omega arith) (λ c. omega arith) loop-again returns)
+digits-spec = tie.close (tie.spec Inv-loop μ-loop (λ c. (start (c .args .m) (omega arith), omega arith)) (λ c. omega arith) (λ c. omega arith)
+    (λ c. omega arith) (λ c. omega arith) (λ c. omega arith) (λ c κs. search needs) (λ c. omega (arith, small c)) (λ c. omega (arith, small c))
+    (λ c. omega arith) (λ c. omega arith) (λ c. omega arith) (λ c. omega arith) loop-again returns)

@@ -4,25 +4,12 @@ use native.Mathlib.Omega.{arith}
 use Prim.Native.Nat.{_+_, _-_, _*_, _/_, _^_}
 use lib.Ieee.{binary64, toBits}
 use lib.Ieee.Fits.{add-fits}
-use Rattle.numbers.proofs.RootBits.{clean}
-use Rattle.numbers.proofs.RootGuess.{positive-number}
+use Rattle.numbers.proofs.square_root.RootBits.{clean}
+use Rattle.numbers.proofs.square_root.RootGuess.{positive-number}
 use Rattle.numbers.proofs.square_root.guess.Statement.{statement}
 use Rattle.numbers.proofs.square_root.guess.Tie as tie
 
-float-to-bits-bits : tie.Need-float-to-bits-bits
-float-to-bits-bits c = positive-number (c .args .x) (c .pre .0)
-
-float-from-bits-y0 : tie.Need-float-from-bits-y0
-float-from-bits-y0 c = clean (6909647728293183488 - toBits binary64 (c .args .x) / 2) (omega arith)
-
-float-from-bits-large : tie.Need-float-from-bits-large
-float-from-bits-large c = clean (2425188399339012096 + toBits binary64 (c .args .x) / 2 ^ 53 * 2 ^ 52) (omega arith)
-
-returns : tie.Need-returns
-returns c = add-fits binary64 _ _
-
 pub guess-spec : {M : Type 1} → statement M
-guess-spec =
-    tie.close
-    (tie.spec float-to-bits-bits (λ c. search needs) float-from-bits-y0 (λ c. search needs) (λ c. search needs) (λ c. search needs)
-    (λ c. search needs) float-from-bits-large returns)
+guess-spec = tie.close (tie.spec (λ c. positive-number (c .args .x) (c .pre .0)) (λ c. search needs)
+    (λ c. clean (6909647728293183488 - toBits binary64 (c .args .x) / 2) (omega arith)) (λ c. search needs) (λ c. search needs) (λ c. search needs)
+    (λ c. search needs) (λ c. clean (2425188399339012096 + toBits binary64 (c .args .x) / 2 ^ 53 * 2 ^ 52) (omega arith)) (λ c. add-fits binary64 _ _))

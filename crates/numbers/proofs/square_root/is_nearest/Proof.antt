@@ -2,26 +2,11 @@
 use mathlib.Core.Path.{refl}
 use borrow.Author.Needs.{needs}
 use native.Mathlib.Omega.{arith}
-use lib.Dec.{T, leb→le}
+use lib.Dec.{leb→le}
 use Prim.Native.Nat.{_+_, _-_, _*_, _/_, _^_, _%_}
-use Rattle.numbers.proofs.RootGuess.{ab-le, aa-le, bb-le, nearest}
+use Rattle.numbers.proofs.square_root.RootGuess.{ab-le, aa-le, bb-le, nearest}
 use Rattle.numbers.proofs.square_root.is_nearest.Statement.{statement}
 use Rattle.numbers.proofs.square_root.is_nearest.Tie as tie
-
-mul-aa : tie.Need-mul-aa
-mul-aa c = omega (arith, aa-le (c .args .q) (c .pre .1))
-
-mul-aa-2 : tie.Need-mul-aa-2
-mul-aa-2 c = omega (arith, aa-le (c .args .q) (c .pre .1))
-
-mul-ab : tie.Need-mul-ab
-mul-ab c = omega (arith, ab-le (c .before .before .args .q) (c .before .before .pre .1))
-
-mul-t : tie.Need-mul-t
-mul-t c = omega (arith, bb-le (c .before .before .before .before .args .q))
-
-add-t : tie.Need-add-t
-add-t c = omega (arith, bb-le (c .before .before .before .before .args .q))
 
 returns-6 : tie.Need-returns-6
 returns-6 c =
@@ -37,8 +22,9 @@ returns-6 c =
     λ h. nearest m q j k (omega arith) (omega arith) w t refl refl (omega arith) (leb→le (w - t) (2 * q) h)
 
 pub is-nearest-spec : {M : Type 1} → statement M
-is-nearest-spec =
-    tie.close
-    (tie.spec mul-aa mul-aa-2 (λ c. search needs) (λ c. search needs) (λ c. search needs) (λ c. search needs) (λ c. search needs) mul-ab
-    (λ c. search needs) (λ c. search needs) (λ c. search needs) (λ c. search needs) (λ c. search needs) (λ c. search needs) (λ c. search needs)
-    (λ c. search needs) mul-t (λ c. search needs) add-t (λ c. search needs) (λ c. search needs) (λ c. search needs) returns-6)
+is-nearest-spec = tie.close (tie.spec (λ c. omega (arith, aa-le (c .args .q) (c .pre .1))) (λ c. omega (arith, aa-le (c .args .q) (c .pre .1)))
+    (λ c. search needs) (λ c. search needs) (λ c. search needs) (λ c. search needs) (λ c. search needs)
+    (λ c. omega (arith, ab-le (c .before .before .args .q) (c .before .before .pre .1))) (λ c. search needs) (λ c. search needs) (λ c. search needs)
+    (λ c. search needs) (λ c. search needs) (λ c. search needs) (λ c. search needs) (λ c. search needs)
+    (λ c. omega (arith, bb-le (c .before .before .before .before .args .q))) (λ c. search needs)
+    (λ c. omega (arith, bb-le (c .before .before .before .before .args .q))) (λ c. search needs) (λ c. search needs) (λ c. search needs) returns-6)

@@ -5,23 +5,11 @@ use native.Mathlib.Omega.{arith}
 use borrow.Author.Needs.{needs}
 use lib.Ieee.{binary64, toBits, ofBits, fits}
 use lib.Ieee.Bits.{ofBits-toBits}
-use Rattle.numbers.proofs.FloatBits.{not-nan}
-use Rattle.numbers.proofs.RootGuess.{mantissa-in, positive-number, fast-root}
+use Rattle.numbers.proofs.float.FloatBits.{not-nan}
+use Rattle.numbers.proofs.square_root.RootGuess.{mantissa-in, positive-number, fast-root}
 use Rattle.numbers.proofs.square_root.is_root.Statement.{statement}
 use Rattle.numbers.proofs.square_root.is_root.Tie as tie
 use denote.Floats.{passes}
-
-returns : tie.Need-returns
-returns c = λ h. absurd h
-
-float-to-bits-bits : tie.Need-float-to-bits-bits
-float-to-bits-bits c = positive-number (c .before .args .x) (c .before .pre .0 .0)
-
-float-to-bits-p : tie.Need-float-to-bits-p
-float-to-bits-p c = not-nan (c .before .args .g) (c .if1 .left)
-
-returns-2 : tie.Need-returns-2
-returns-2 c = λ h. absurd h
 
 mul-m : tie.Need-mul-m
 mul-m c =
@@ -50,7 +38,6 @@ returns-3 c =
     ∙ fast-root x q (n .0) (passes (fits binary64 x) (k .good .1 .0 .1)) (n .1) (n .2) (c .is-nearest .ensures h)
 
 pub is-root-spec : {M : Type 1} → statement M
-is-root-spec =
-    tie.close
-    (tie.spec returns float-to-bits-bits float-to-bits-p (λ c. search needs) returns-2 (λ c. search needs) (λ c. search needs) mul-m
+is-root-spec = tie.close (tie.spec (λ c. λ h. absurd h) (λ c. positive-number (c .before .args .x) (c .before .pre .0 .0))
+    (λ c. not-nan (c .before .args .g) (c .if1 .left)) (λ c. search needs) (λ c. λ h. absurd h) (λ c. search needs) (λ c. search needs) mul-m
     (λ c. search needs) is-nearest-requires returns-3)

@@ -1,16 +1,10 @@
 -- `placed` meets its contract: by the parity of the exponent.
 use borrow.Author.Needs.{needs}
-use Rattle.numbers.proofs.RootBits.{placed-even, placed-odd}
+use Rattle.numbers.proofs.square_root.RootBits.{placed-even, placed-odd}
 use Rattle.numbers.proofs.square_root.placed.Statement.{statement}
 use Rattle.numbers.proofs.square_root.placed.Tie as tie
 
-returns : tie.Need-returns
-returns c =
-    placed-even (c .before .before .args .m) (c .before .before .args .e) (c .scaled .result) (c .before .if1 .taken) (c .scaled .ensures)
-
-returns-2 : tie.Need-returns-2
-returns-2 c =
-    placed-odd (c .before .before .args .m) (c .before .before .args .e) (c .scaled2 .result) (c .before .if1 .left) (c .scaled2 .ensures)
-
 pub placed-spec : {M : Type 1} → statement M
-placed-spec = tie.close (tie.spec (λ c κs. search needs) (λ c. search needs) (λ c κs. search needs) returns returns-2)
+placed-spec = tie.close (tie.spec (λ c κs. search needs) (λ c. search needs) (λ c κs. search needs)
+    (λ c. placed-even (c .before .before .args .m) (c .before .before .args .e) (c .scaled .result) (c .before .if1 .taken) (c .scaled .ensures))
+    (λ c. placed-odd (c .before .before .args .m) (c .before .before .args .e) (c .scaled2 .result) (c .before .if1 .left) (c .scaled2 .ensures)))

@@ -3,8 +3,8 @@ use native.Mathlib.Omega.{arith}
 use borrow.Author.Needs.{needs}
 use lib.Dec.{T}
 use lib.Ieee.{binary64, fits, toBits}
-use Rattle.numbers.proofs.Units.{mag}
-use Rattle.numbers.proofs.RootBits.{opened, low-root, high-root}
+use Rattle.numbers.proofs.Rounding.Units.{mag}
+use Rattle.numbers.proofs.square_root.RootBits.{opened, low-root, high-root}
 use Rattle.numbers.proofs.square_root.root_positive.Statement.{statement}
 use Rattle.numbers.proofs.square_root.root_positive.Tie as tie
 use denote.Floats.{passes}
@@ -13,21 +13,12 @@ use denote.Floats.{passes}
 of-format : (c : tie.Start) → T (fits binary64 (c .args .x))
 of-format c = passes (fits binary64 (c .args .x)) (c .good .0 .1)
 
-float-to-bits-bits : tie.Need-float-to-bits-bits
-float-to-bits-bits c = opened (c .args .x) (c .pre) (of-format c) .2
-
 normal-requires : tie.Need-normal-requires
 normal-requires c κs =
     let u = opened (c .before .args .x) (c .before .pre) (of-format (c .before)) .0 in
     let e = u .low (c .if1 .taken) in
     let p = u .some in
     omega arith
-
-add-placed-2 : tie.Need-add-placed-2
-add-placed-2 c = omega (arith, opened (c .before .args .x) (c .before .pre) (of-format (c .before)) .0 .field)
-
-placed-requires-2 : tie.Need-placed-requires-2
-placed-requires-2 c κs = omega (arith, opened (c .before .args .x) (c .before .pre) (of-format (c .before)) .0 .field)
 
 returns : tie.Need-returns
 returns c =
@@ -45,7 +36,7 @@ returns-2 c =
     high-root (toBits binary64 x) (mag x) (c .placed2 .result) x (o .0) (o .1) (c .before .if1 .left) (c .placed2 .ensures)
 
 pub root-positive-spec : {M : Type 1} → statement M
-root-positive-spec =
-    tie.close
-    (tie.spec float-to-bits-bits normal-requires (λ c. search needs) (λ c κs. search needs) (λ c. search needs) add-placed-2 placed-requires-2
+root-positive-spec = tie.close (tie.spec (λ c. opened (c .args .x) (c .pre) (of-format c) .2) normal-requires (λ c. search needs)
+    (λ c κs. search needs) (λ c. search needs) (λ c. omega (arith, opened (c .before .args .x) (c .before .pre) (of-format (c .before)) .0 .field))
+    (λ c κs. omega (arith, opened (c .before .args .x) (c .before .pre) (of-format (c .before)) .0 .field))
     returns returns-2)

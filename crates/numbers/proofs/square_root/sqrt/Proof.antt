@@ -4,14 +4,7 @@ use Rattle.numbers.proofs.square_root.sqrt.Statement.{statement}
 use Rattle.numbers.proofs.square_root.sqrt.Tie as tie
 use denote.Floats.{passes}
 
-guess-requires : tie.Need-guess-requires
-guess-requires c κs = c .before .is-normal .ensures (passes (c .before .is-normal .result) (c .if1 .taken))
-
-is-root-requires : tie.Need-is-root-requires
-is-root-requires c κs = (c .before .before .is-normal .ensures (passes (c .before .before .is-normal .result) (c .before .if1 .taken)), c .guess .ensures)
-
-returns : tie.Need-returns
-returns c = c .before .is-root .ensures (passes (c .before .is-root .result) (c .if2 .taken))
-
 pub sqrt-spec : {M : Type 1} → statement M
-sqrt-spec = tie.close (tie.spec (λ c κs. search needs) guess-requires is-root-requires returns (λ c κs. search needs) (λ c. search needs))
+sqrt-spec = tie.close (tie.spec (λ c κs. search needs) (λ c κs. c .before .is-normal .ensures (passes (c .before .is-normal .result) (c .if1 .taken)))
+    (λ c κs. (c .before .before .is-normal .ensures (passes (c .before .before .is-normal .result) (c .before .if1 .taken)), c .guess .ensures))
+    (λ c. c .before .is-root .ensures (passes (c .before .is-root .result) (c .if2 .taken))) (λ c κs. search needs) (λ c. search needs))

@@ -1,12 +1,12 @@
 -- `sqrt_or_zero` meets its contract, by the three laws of RootOrZero.
-use mathlib.Core.Path.{_≡_, sym, ap, _∙_, subst}
+use mathlib.Core.Path.{sym, ap, _∙_, subst}
 use borrow.Author.Needs.{needs}
 use lib.Dec.{T}
 use lib.Ieee.{Float, binary64, ofBits, lt, eq}
 use Rattle.numbers.specs.Float.{f0}
 use Rattle.numbers.specs.SquareRoot.{sqrt}
-use Rattle.numbers.proofs.RootBits.{zero-bits, off}
-use Rattle.numbers.proofs.RootOrZero as root
+use Rattle.numbers.proofs.square_root.RootBits.{zero-bits, off}
+use Rattle.numbers.proofs.square_root.RootOrZero as root
 use Rattle.numbers.proofs.square_root.sqrt_or_zero.Statement.{statement}
 use Rattle.numbers.proofs.square_root.sqrt_or_zero.Tie as tie
 use denote.Floats.{passes}

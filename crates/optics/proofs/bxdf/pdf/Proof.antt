@@ -5,17 +5,8 @@ use borrow.Author.Needs.{needs}
 use Rattle.optics.proofs.bxdf.pdf.Statement.{statement}
 use Rattle.optics.proofs.bxdf.pdf.Tie as tie
 
-returns : tie.Need-returns
-unfolding pdfOf ofBits
-returns c = rw (c .before .before .enum-told .given .1, c .before .if1 .taken, ← c .pdf .ensures)
-
-returns-2 : tie.Need-returns-2
-unfolding pdfOf ofBits
-returns-2 c = rw (c .before .enum-told .given .1, c .if1 .left)
-
-returns-3 : tie.Need-returns-3
-unfolding pdfOf ofBits
-returns-3 c = rw (c .before .enum-told2 .given .1, ← c .pdf2 .ensures)
-
 pub pdf-spec : {M : Type 1} → statement M
-pdf-spec = tie.close (tie.spec (λ c. search needs) (λ c κs. search needs) returns (λ c. search needs) (λ c κs. search needs) returns-2 returns-3)
+unfolding pdfOf ofBits
+pdf-spec = tie.close (tie.spec (λ c. search needs) (λ c κs. search needs)
+    (λ c. rw (c .before .before .enum-told .given .1, c .before .if1 .taken, ← c .pdf .ensures)) (λ c. search needs) (λ c κs. search needs)
+    (λ c. rw (c .before .enum-told .given .1, c .if1 .left)) (λ c. rw (c .before .enum-told2 .given .1, ← c .pdf2 .ensures)))

@@ -5,19 +5,8 @@ use borrow.Author.Needs.{needs}
 use Rattle.optics.proofs.bxdf.refract.Statement.{statement}
 use Rattle.optics.proofs.bxdf.refract.Tie as tie
 
-returns : tie.Need-returns
-unfolding refract ofBits
-returns c =
-    rw (
-      ← c .before .before .before .dot .ensures,
-      c .before .before .if1 .taken,
-      ← c .before .negate .ensures,
-      ← c .refract-facing .ensures,
-    )
-
-returns-2 : tie.Need-returns-2
-unfolding refract ofBits
-returns-2 c = rw (← c .before .before .dot .ensures, c .before .if1 .left, ← c .refract-facing2 .ensures)
-
 pub refract-spec : {M : Type 1} → statement M
-refract-spec = tie.close (tie.spec (λ c κs. search needs) (λ c κs. search needs) (λ c κs. search needs) returns (λ c κs. search needs) returns-2)
+unfolding refract ofBits
+refract-spec = tie.close (tie.spec (λ c κs. search needs) (λ c κs. search needs) (λ c κs. search needs)
+    (λ c. rw (← c .before .before .before .dot .ensures, c .before .before .if1 .taken, ← c .before .negate .ensures, ← c .refract-facing .ensures))
+    (λ c κs. search needs) (λ c. rw (← c .before .before .dot .ensures, c .before .if1 .left, ← c .refract-facing2 .ensures)))

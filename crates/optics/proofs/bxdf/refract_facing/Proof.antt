@@ -6,40 +6,11 @@ use borrow.Author.Needs.{needs}
 use Rattle.optics.proofs.bxdf.refract_facing.Statement.{statement}
 use Rattle.optics.proofs.bxdf.refract_facing.Tie as tie
 
-returns : tie.Need-returns
-unfolding refractFacing sin2I isTotal cosI bent acrossOnly refracted ofBits
-returns c = rw (c .if1 .taken)
-
-returns-2 : tie.Need-returns-2
-unfolding refractFacing sin2I isTotal cosI bent acrossOnly refracted ofBits
-returns-2 c =
-    rw (
-      c .before .before .before .before .before .before .before .if1 .left,
-      ← c .before .before .before .before .before .before .sqrt-or-zero .ensures,
-      ← c .before .before .before .before .before .negate .ensures,
-      ← c .before .before .before .before .div-float .ensures,
-      ← c .before .before .before .float-mul .ensures,
-      ← c .before .before .add .ensures,
-      ← c .before .same-hemisphere .ensures,
-      c .if2 .taken,
-    )
-
-returns-3 : tie.Need-returns-3
-unfolding refractFacing sin2I isTotal cosI bent acrossOnly refracted ofBits
-returns-3 c =
-    rw (
-      c .before .before .before .before .before .before .before .if1 .left,
-      ← c .before .before .before .before .before .before .sqrt-or-zero .ensures,
-      ← c .before .before .before .before .before .negate .ensures,
-      ← c .before .before .before .before .div-float .ensures,
-      ← c .before .before .before .float-mul .ensures,
-      ← c .before .before .add .ensures,
-      ← c .before .same-hemisphere .ensures,
-      c .if2 .left,
-    )
-
 pub refract-facing-spec : {M : Type 1} → statement M
-refract-facing-spec =
-    tie.close
-    (tie.spec returns (λ c κs. search needs) (λ c κs. search needs) (λ c κs. search needs) (λ c κs. search needs) (λ c κs. search needs)
-    (λ c κs. search needs) returns-2 returns-3)
+unfolding refractFacing sin2I isTotal cosI bent acrossOnly refracted ofBits
+refract-facing-spec = tie.close (tie.spec (λ c. rw (c .if1 .taken)) (λ c κs. search needs) (λ c κs. search needs) (λ c κs. search needs)
+    (λ c κs. search needs) (λ c κs. search needs) (λ c κs. search needs)
+    (λ c. let p = c .before .before in let q = p .before .before in
+    rw (q .before .before .before .if1 .left, ← q .before .before .sqrt-or-zero .ensures, ← q .before .negate .ensures, ← q .div-float .ensures, ← p .before .float-mul .ensures, ← p .add .ensures, ← c .before .same-hemisphere .ensures, c .if2 .taken))
+    (λ c. let p = c .before .before in let q = p .before .before in
+    rw (q .before .before .before .if1 .left, ← q .before .before .sqrt-or-zero .ensures, ← q .before .negate .ensures, ← q .div-float .ensures, ← p .before .float-mul .ensures, ← p .add .ensures, ← c .before .same-hemisphere .ensures, c .if2 .left)))

@@ -5,9 +5,6 @@ use borrow.Author.Needs.{needs}
 use Rattle.optics.proofs.checked.all_zero.Statement.{statement}
 use Rattle.optics.proofs.checked.all_zero.Tie as tie
 
-returns : tie.Need-returns
-unfolding allZero ofBits
-returns c = rw (← c .all-within .ensures)
-
 pub all-zero-spec : {M : Type 1} → statement M
-all-zero-spec = tie.close (tie.spec (λ c κs. search needs) returns)
+unfolding allZero ofBits
+all-zero-spec = tie.close (tie.spec (λ c κs. search needs) (λ c. rw (← c .all-within .ensures)))

@@ -5,9 +5,7 @@ use Rattle.optics.specs.Checked.{checkCirclePair}
 use Rattle.optics.proofs.checked.check_circle_pair.Statement.{statement}
 use Rattle.optics.proofs.checked.check_circle_pair.Tie as tie
 
-returns : tie.Need-returns
-unfolding checkCirclePair number
-returns c = rw (← c .before .is-circle-pair .ensures, ← c .refuse .ensures)
-
 pub check-circle-pair-spec : {M : Type 1} → statement M
-check-circle-pair-spec = tie.close (tie.spec (λ c κs. search needs) (λ c κs. search needs) returns)
+unfolding checkCirclePair number
+check-circle-pair-spec = tie.close (tie.spec (λ c κs. search needs) (λ c κs. search needs)
+    (λ c. rw (← c .before .is-circle-pair .ensures, ← c .refuse .ensures)))

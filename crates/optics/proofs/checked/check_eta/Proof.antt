@@ -5,9 +5,6 @@ use Rattle.optics.specs.Checked.{checkEta}
 use Rattle.optics.proofs.checked.check_eta.Statement.{statement}
 use Rattle.optics.proofs.checked.check_eta.Tie as tie
 
-returns : tie.Need-returns
-unfolding checkEta number
-returns c = rw (← c .before .is-eta .ensures, ← c .refuse .ensures)
-
 pub check-eta-spec : {M : Type 1} → statement M
-check-eta-spec = tie.close (tie.spec (λ c κs. search needs) (λ c κs. search needs) returns)
+unfolding checkEta number
+check-eta-spec = tie.close (tie.spec (λ c κs. search needs) (λ c κs. search needs) (λ c. rw (← c .before .is-eta .ensures, ← c .refuse .ensures)))

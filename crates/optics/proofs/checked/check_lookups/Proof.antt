@@ -5,14 +5,9 @@ use Rattle.optics.specs.Checked.{checkLookups}
 use Rattle.optics.proofs.checked.check_lookups.Statement.{statement}
 use Rattle.optics.proofs.checked.check_lookups.Tie as tie
 
-returns : tie.Need-returns
-unfolding checkLookups number
-returns c =
-    let p1 = c .before .before .before in
-    rw (← p1 .before .is-lookup-wavelength .ensures, ← p1 .is-lookup-wavelength2 .ensures, ← c .before .before .is-lookup-wavelength3 .ensures, ← c .before .is-lookup-wavelength4 .ensures, ← c .refuse .ensures)
-
 pub check-lookups-spec : {M : Type 1} → statement M
-check-lookups-spec =
-    tie.close
-    (tie.spec
-    (λ c κs. search needs) (λ c κs. search needs) (λ c κs. search needs) (λ c κs. search needs) (λ c κs. search needs) returns)
+unfolding checkLookups number
+check-lookups-spec = tie.close (tie.spec (λ c κs. search needs) (λ c κs. search needs) (λ c κs. search needs) (λ c κs. search needs)
+    (λ c κs. search needs)
+    (λ c. let p = c .before .before in
+    rw (← p .before .before .is-lookup-wavelength .ensures, ← p .before .is-lookup-wavelength2 .ensures, ← p .is-lookup-wavelength3 .ensures, ← c .before .is-lookup-wavelength4 .ensures, ← c .refuse .ensures)))

@@ -6,9 +6,6 @@ use Rattle.optics.specs.Checked.{checkRandom, isRandom}
 use Rattle.optics.proofs.checked.check_random.Statement.{statement}
 use Rattle.optics.proofs.checked.check_random.Tie as tie
 
-returns : tie.Need-returns
-unfolding checkRandom isRandom number ofBits
-returns c = rw (← c .refuse .ensures)
-
 pub check-random-spec : {M : Type 1} → statement M
-check-random-spec = tie.close (tie.spec (λ c κs. search needs) returns)
+unfolding checkRandom isRandom number ofBits
+check-random-spec = tie.close (tie.spec (λ c κs. search needs) (λ c. rw (← c .refuse .ensures)))

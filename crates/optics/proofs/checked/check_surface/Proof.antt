@@ -5,11 +5,7 @@ use Rattle.optics.specs.Checked.{checkSurface}
 use Rattle.optics.proofs.checked.check_surface.Statement.{statement}
 use Rattle.optics.proofs.checked.check_surface.Tie as tie
 
-returns : tie.Need-returns
-unfolding checkSurface number
-returns c =
-    let p1 = c .before .before .before in
-    rw (← p1 .roughness-holds .ensures, ← c .before .before .refuse .ensures, ← c .before .check-spectra .ensures, ← c .then .ensures)
-
 pub check-surface-spec : {M : Type 1} → statement M
-check-surface-spec = tie.close (tie.spec (λ c κs. search needs) (λ c κs. search needs) (λ c κs. search needs) (λ c κs. search needs) returns)
+unfolding checkSurface number
+check-surface-spec = tie.close (tie.spec (λ c κs. search needs) (λ c κs. search needs) (λ c κs. search needs) (λ c κs. search needs)
+    (λ c. rw (← c .before .before .before .roughness-holds .ensures, ← c .before .before .refuse .ensures, ← c .before .check-spectra .ensures, ← c .then .ensures)))

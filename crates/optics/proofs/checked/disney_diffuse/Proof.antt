@@ -6,15 +6,8 @@ use Rattle.optics.specs.Checked.{disneyDiffuse}
 use Rattle.optics.proofs.checked.disney_diffuse.Statement.{statement}
 use Rattle.optics.proofs.checked.disney_diffuse.Tie as tie
 
-returns : tie.Need-returns
-unfolding disneyDiffuse floatAnswer verdict _▷_
-returns c = rw (← c .before .before .before .check-surface .ensures, c .before .why .given .1)
-
-returns-2 : tie.Need-returns-2
-unfolding disneyDiffuse floatAnswer verdict _▷_
-returns-2 c =
-    let p1 = c .before .before .before .before in
-    rw (← p1 .check-surface .ensures, c .before .before .enum-told .given .1, ← c .disney-diffuse .ensures)
-
 pub disney-diffuse-spec : {M : Type 1} → statement M
-disney-diffuse-spec = tie.close (tie.spec (λ c κs. search needs) (λ c. search needs) returns (λ c. search needs) (λ c κs. search needs) returns-2)
+unfolding disneyDiffuse floatAnswer verdict _▷_
+disney-diffuse-spec = tie.close (tie.spec (λ c κs. search needs) (λ c. search needs)
+    (λ c. rw (← c .before .before .before .check-surface .ensures, c .before .why .given .1)) (λ c. search needs) (λ c κs. search needs)
+    (λ c. rw (← c .before .before .before .before .check-surface .ensures, c .before .before .enum-told .given .1, ← c .disney-diffuse .ensures)))

@@ -6,9 +6,8 @@ use Rattle.optics.specs.Surface.{etaMin, etaHolds}
 use Rattle.optics.proofs.checked.eta_holds.Statement.{statement}
 use Rattle.optics.proofs.checked.eta_holds.Tie as tie
 
-returns : tie.Need-returns
-unfolding etaHolds etaMin ofBits decimal
-returns c = rw (← c .before .is-table .ensures, ← c .all-within .ensures)
-
 pub eta-holds-spec : {M : Type 1} → statement M
-eta-holds-spec = tie.close (tie.spec (λ c κs. search needs) (λ c κs. search needs) returns)
+unfolding etaHolds etaMin ofBits decimal
+eta-holds-spec = tie.close (tie.spec (λ c κs. search needs) (λ c κs. search needs)
+    (λ c. rw (← c .before .before .is-table .ensures, c .before .if1 .taken, ← c .all-within .ensures))
+    (λ c. rw (← c .before .is-table .ensures, c .if1 .left)))

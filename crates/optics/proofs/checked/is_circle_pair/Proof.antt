@@ -6,9 +6,7 @@ use Rattle.optics.specs.Checked.{isCirclePair}
 use Rattle.optics.proofs.checked.is_circle_pair.Statement.{statement}
 use Rattle.optics.proofs.checked.is_circle_pair.Tie as tie
 
-returns : tie.Need-returns
-unfolding isCirclePair decimal ofBits neg
-returns c = rw (← c .before .before .within .ensures, ← c .before .within2 .ensures, ← c .within3 .ensures)
-
 pub is-circle-pair-spec : {M : Type 1} → statement M
-is-circle-pair-spec = tie.close (tie.spec (λ c κs. search needs) (λ c κs. search needs) (λ c κs. search needs) returns)
+unfolding isCirclePair decimal ofBits neg
+is-circle-pair-spec = tie.close (tie.spec (λ c κs. search needs) (λ c κs. search needs) (λ c κs. search needs)
+    (λ c. rw (← c .before .before .within .ensures, ← c .before .within2 .ensures, ← c .within3 .ensures)))

@@ -6,9 +6,6 @@ use borrow.Author.Needs.{needs}
 use Rattle.optics.proofs.checked.is_eta.Statement.{statement}
 use Rattle.optics.proofs.checked.is_eta.Tie as tie
 
-returns : tie.Need-returns
-unfolding isEta etaMin decimal ofBits
-returns c = rw (← c .within .ensures)
-
 pub is-eta-spec : {M : Type 1} → statement M
-is-eta-spec = tie.close (tie.spec (λ c κs. search needs) returns)
+unfolding isEta etaMin decimal ofBits
+is-eta-spec = tie.close (tie.spec (λ c κs. search needs) (λ c. rw (← c .within .ensures)))

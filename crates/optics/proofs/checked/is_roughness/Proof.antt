@@ -6,9 +6,6 @@ use borrow.Author.Needs.{needs}
 use Rattle.optics.proofs.checked.is_roughness.Statement.{statement}
 use Rattle.optics.proofs.checked.is_roughness.Tie as tie
 
-returns : tie.Need-returns
-unfolding isRoughness roughnessMin decimal ofBits
-returns c = rw (← c .within .ensures)
-
 pub is-roughness-spec : {M : Type 1} → statement M
-is-roughness-spec = tie.close (tie.spec (λ c κs. search needs) returns)
+unfolding isRoughness roughnessMin decimal ofBits
+is-roughness-spec = tie.close (tie.spec (λ c κs. search needs) (λ c. rw (← c .within .ensures)))

@@ -8,23 +8,12 @@ use Rattle.optics.specs.Checked.{makeSurface, surfaceAnswer}
 use Rattle.optics.proofs.checked.make_surface.Statement.{statement}
 use Rattle.optics.proofs.checked.make_surface.Tie as tie
 
-returns : tie.Need-returns
-unfolding makeSurface surfaceAnswer surface roughnessMin isRoughnessGiven verdict _▷_ number ofBits decimal
-returns c =
-    let p1 = c .before .before .before in
-    let p2 = p1 .before .before .before in
-    rw (← p2 .within .ensures, ← p1 .before .before .refuse .ensures, ← p1 .before .check-spectra .ensures, ← p1 .then .ensures, c .before .check .given .1)
-
-returns-2 : tie.Need-returns-2
-unfolding makeSurface surfaceAnswer surface roughnessMin isRoughnessGiven verdict _▷_ number ofBits decimal
-returns-2 c =
-    let p1 = c .before .before .before .before in
-    let p2 = p1 .before .before .before in
-    rw (← p2 .within .ensures, ← p1 .before .before .refuse .ensures, ← p1 .before .check-spectra .ensures, ← p1 .then .ensures, c .before .before .enum-told .given .1, ← c .before .max .ensures, ← c .splat .ensures)
-
 pub make-surface-spec : {M : Type 1} → statement M
-make-surface-spec =
-    tie.close
-    (tie.spec
-    (λ c κs. search needs) (λ c κs. search needs) (λ c κs. search needs) (λ c κs. search needs) (λ c. search needs) returns (λ c. search needs)
-    (λ c κs. search needs) (λ c κs. search needs) returns-2)
+unfolding makeSurface surfaceAnswer surface roughnessMin isRoughnessGiven verdict _▷_ number ofBits decimal
+make-surface-spec = tie.close (tie.spec (λ c κs. search needs) (λ c κs. search needs) (λ c κs. search needs) (λ c κs. search needs)
+    (λ c. search needs)
+    (λ c. let p = c .before .before .before in
+    rw (← p .before .before .before .within .ensures, ← p .before .before .refuse .ensures, ← p .before .check-spectra .ensures, ← p .then .ensures, c .before .check .given .1))
+    (λ c. search needs) (λ c κs. search needs) (λ c κs. search needs)
+    (λ c. let p = c .before .before .before .before in
+    rw (← p .before .before .before .within .ensures, ← p .before .before .refuse .ensures, ← p .before .check-spectra .ensures, ← p .then .ensures, c .before .before .enum-told .given .1, c .splat .ensures, c .before .max .ensures)))

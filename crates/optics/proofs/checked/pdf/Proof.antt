@@ -7,27 +7,12 @@ use Rattle.optics.specs.Density as Density
 use Rattle.optics.proofs.checked.pdf.Statement.{statement}
 use Rattle.optics.proofs.checked.pdf.Tie as tie
 
-returns : tie.Need-returns
-unfolding pdf Density.pdf floatAnswer verdict _▷_
-returns c =
-    let p1 = c .before .before .before in
-    let p2 = p1 .before .before .before in
-    let p3 = p2 .before .before .before in
-    rw (← p3 .check-surface .ensures, ← p2 .before .before .check-direction .ensures, ← p2 .before .then .ensures, ← p2 .check-direction2 .ensures, ← p1 .before .before .then2 .ensures, ← p1 .before .check-wavelength .ensures, ← p1 .then3 .ensures, c .before .check .given .1)
-
-returns-2 : tie.Need-returns-2
-unfolding pdf Density.pdf floatAnswer verdict _▷_
-returns-2 c =
-    let p1 = c .before .before .before in
-    let p2 = p1 .before .before .before in
-    let p3 = p2 .before .before .before in
-    let p4 = p3 .before .before .before in
-    rw (← p4 .check-surface .ensures, ← p3 .before .before .check-direction .ensures, ← p3 .before .then .ensures, ← p3 .check-direction2 .ensures, ← p2 .before .before .then2 .ensures, ← p2 .before .check-wavelength .ensures, ← p2 .then3 .ensures, p1 .before .enum-told .given .1, ← p1 .optical-constants .ensures .0, ← p1 .optical-constants .ensures .1, ← c .before .pdf .ensures, ← c .finite-only .ensures)
-
 pub pdf-spec : {M : Type 1} → statement M
-pdf-spec =
-    tie.close
-    (tie.spec
-    (λ c κs. search needs) (λ c κs. search needs) (λ c κs. search needs) (λ c κs. search needs) (λ c κs. search needs) (λ c κs. search needs)
-    (λ c κs. search needs) (λ c. search needs) returns (λ c. search needs) (λ c κs. search needs) (λ c κs. search needs) (λ c κs. search needs)
-    returns-2)
+unfolding pdf Density.pdf floatAnswer verdict _▷_
+pdf-spec = tie.close (tie.spec (λ c κs. search needs) (λ c κs. search needs) (λ c κs. search needs) (λ c κs. search needs) (λ c κs. search needs)
+    (λ c κs. search needs) (λ c κs. search needs) (λ c. search needs)
+    (λ c. let p = c .before .before .before in let q = p .before .before .before in
+    rw (← q .before .before .before .check-surface .ensures, ← q .before .before .check-direction .ensures, ← q .before .then .ensures, ← q .check-direction2 .ensures, ← p .before .before .then2 .ensures, ← p .before .check-wavelength .ensures, ← p .then3 .ensures, c .before .check .given .1))
+    (λ c. search needs) (λ c κs. search needs) (λ c κs. search needs) (λ c κs. search needs)
+    (λ c. let p = c .before .before .before in let q = p .before .before .before in let r = q .before .before .before in
+    rw (← r .before .before .before .check-surface .ensures, ← r .before .before .check-direction .ensures, ← r .before .then .ensures, ← r .check-direction2 .ensures, ← q .before .before .then2 .ensures, ← q .before .check-wavelength .ensures, ← q .then3 .ensures, p .before .enum-told .given .1, ← p .optical-constants .ensures .0, ← p .optical-constants .ensures .1, ← c .before .pdf .ensures, ← c .finite-only .ensures)))

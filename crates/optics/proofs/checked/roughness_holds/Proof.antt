@@ -4,9 +4,7 @@ use Rattle.optics.specs.Surface.{roughnessHolds}
 use Rattle.optics.proofs.checked.roughness_holds.Statement.{statement}
 use Rattle.optics.proofs.checked.roughness_holds.Tie as tie
 
-returns : tie.Need-returns
-unfolding roughnessHolds
-returns c = rw (← c .before .is-roughness .ensures, ← c .is-roughness2 .ensures)
-
 pub roughness-holds-spec : {M : Type 1} → statement M
-roughness-holds-spec = tie.close (tie.spec (λ c κs. search needs) (λ c κs. search needs) returns)
+unfolding roughnessHolds
+roughness-holds-spec = tie.close (tie.spec (λ c κs. search needs) (λ c κs. search needs)
+    (λ c. rw (← c .before .is-roughness .ensures, ← c .is-roughness2 .ensures)))

@@ -5,15 +5,7 @@ use borrow.Author.Needs.{needs}
 use Rattle.optics.proofs.microfacet.complex_cos_i.Statement.{statement}
 use Rattle.optics.proofs.microfacet.complex_cos_i.Tie as tie
 
-returns : tie.Need-returns
-unfolding complexCosI ofBits
-returns c =
-    rw (
-      ← c .before .before .before .mul .ensures,
-      ← c .before .before .float-div .ensures,
-      ← c .before .float-sub .ensures,
-      ← c .sqrt .ensures,
-    )
-
 pub complex-cos-i-spec : {M : Type 1} → statement M
-complex-cos-i-spec = tie.close (tie.spec (λ c κs. search needs) (λ c κs. search needs) (λ c κs. search needs) (λ c κs. search needs) returns)
+unfolding complexCosI ofBits
+complex-cos-i-spec = tie.close (tie.spec (λ c κs. search needs) (λ c κs. search needs) (λ c κs. search needs) (λ c κs. search needs)
+    (λ c. rw (c .sqrt .ensures, c .before .float-sub .ensures, c .before .before .float-div .ensures, c .before .before .before .mul .ensures)))

@@ -5,9 +5,6 @@ use borrow.Author.Needs.{needs}
 use Rattle.optics.proofs.microfacet.f_schlick.Statement.{statement}
 use Rattle.optics.proofs.microfacet.f_schlick.Tie as tie
 
-returns : tie.Need-returns
-unfolding fSchlick ofBits
-returns c = rw (← c .powi5 .ensures)
-
 pub f-schlick-spec : {M : Type 1} → statement M
-f-schlick-spec = tie.close (tie.spec (λ c κs. search needs) returns)
+unfolding fSchlick ofBits
+f-schlick-spec = tie.close (tie.spec (λ c κs. search needs) (λ c. rw (c .powi5 .ensures)))

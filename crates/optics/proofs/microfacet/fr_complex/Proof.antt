@@ -5,9 +5,7 @@ use borrow.Author.Needs.{needs}
 use Rattle.optics.proofs.microfacet.fr_complex.Statement.{statement}
 use Rattle.optics.proofs.microfacet.fr_complex.Tie as tie
 
-returns : tie.Need-returns
-unfolding frComplex ofBits
-returns c = rw (← c .before .clamp .ensures, ← c .fr-complex-facing .ensures)
-
 pub fr-complex-spec : {M : Type 1} → statement M
-fr-complex-spec = tie.close (tie.spec (λ c κs. search needs) (λ c κs. search needs) returns)
+unfolding frComplex ofBits
+fr-complex-spec = tie.close (tie.spec (λ c κs. search needs) (λ c κs. search needs)
+    (λ c. rw (← c .before .clamp .ensures, ← c .fr-complex-facing .ensures)))

@@ -5,13 +5,6 @@ use borrow.Author.Needs.{needs}
 use Rattle.optics.proofs.microfacet.fr_facing.Statement.{statement}
 use Rattle.optics.proofs.microfacet.fr_facing.Tie as tie
 
-returns : tie.Need-returns
-unfolding frFacing sin2I isTotal cosI unpolarized contrast meanSquare ofBits
-returns c = rw (c .if1 .taken)
-
-returns-2 : tie.Need-returns-2
-unfolding frFacing sin2I isTotal cosI unpolarized contrast meanSquare ofBits
-returns-2 c = rw (c .before .if1 .left, ← c .sqrt-or-zero .ensures)
-
 pub fr-facing-spec : {M : Type 1} → statement M
-fr-facing-spec = tie.close (tie.spec returns (λ c κs. search needs) returns-2)
+unfolding frFacing sin2I isTotal cosI unpolarized contrast meanSquare ofBits
+fr-facing-spec = tie.close (tie.spec (λ c. rw (c .if1 .taken)) (λ c κs. search needs) (λ c. rw (c .before .if1 .left, ← c .sqrt-or-zero .ensures)))

@@ -5,13 +5,7 @@ use borrow.Author.Needs.{needs}
 use Rattle.optics.proofs.microfacet.on_hemisphere.Statement.{statement}
 use Rattle.optics.proofs.microfacet.on_hemisphere.Tie as tie
 
-returns : tie.Need-returns
-unfolding onHemisphere diskX diskH diskY diskZ lerp ofBits
-returns c =
-    rw (
-      ← c .before .before .sqrt-or-zero .ensures,
-      ← c .sqrt-or-zero2 .ensures,
-    )
-
 pub on-hemisphere-spec : {M : Type 1} → statement M
-on-hemisphere-spec = tie.close (tie.spec (λ c κs. search needs) (λ c κs. search needs) returns)
+unfolding onHemisphere diskX diskH diskY diskZ lerp ofBits
+on-hemisphere-spec = tie.close (tie.spec (λ c κs. search needs) (λ c κs. search needs)
+    (λ c. rw (← c .before .before .sqrt-or-zero .ensures, ← c .sqrt-or-zero2 .ensures)))

@@ -1,6 +1,6 @@
 -- `optics::microfacet::optical_constants` meets its contract: a read from the grid point is the lookup (`sample-from-point`).
 use borrow.Author.Needs.{needs}
-use Rattle.numbers.proofs.GridPoint.{sample-from-point}
+use Rattle.numbers.proofs.dense_spectrum.SampleFrom.{sample-from-point}
 use Rattle.optics.specs.Surface.{etaAt, kAt}
 use Rattle.optics.proofs.microfacet.optical_constants.Statement.{statement}
 use Rattle.optics.proofs.microfacet.optical_constants.Tie as tie

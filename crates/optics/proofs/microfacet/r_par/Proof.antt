@@ -4,15 +4,7 @@ use borrow.Author.Needs.{needs}
 use Rattle.optics.proofs.microfacet.r_par.Statement.{statement}
 use Rattle.optics.proofs.microfacet.r_par.Tie as tie
 
-returns : tie.Need-returns
-unfolding rPar
-returns c =
-    rw (
-      ← c .before .before .before .mul-float .ensures,
-      ← c .before .before .sub .ensures,
-      ← c .before .add .ensures,
-      ← c .div .ensures,
-    )
-
 pub r-par-spec : {M : Type 1} → statement M
-r-par-spec = tie.close (tie.spec (λ c κs. search needs) (λ c κs. search needs) (λ c κs. search needs) (λ c κs. search needs) returns)
+unfolding rPar
+r-par-spec = tie.close (tie.spec (λ c κs. search needs) (λ c κs. search needs) (λ c κs. search needs) (λ c κs. search needs)
+    (λ c. rw (c .div .ensures, c .before .add .ensures, c .before .before .sub .ensures, c .before .before .before .mul-float .ensures)))

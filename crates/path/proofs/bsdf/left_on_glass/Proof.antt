@@ -4,13 +4,8 @@ use Rattle.path.specs.Bounce.{leftOnGlass}
 use Rattle.path.proofs.bsdf.left_on_glass.Statement.{statement}
 use Rattle.path.proofs.bsdf.left_on_glass.Tie as tie
 
-returns : tie.Need-returns
-unfolding leftOnGlass
-returns c = rw (← c .before .before .before .pre, ← c .before .is-constant .ensures, c .if1 .taken)
-
-returns-2 : tie.Need-returns-2
-unfolding leftOnGlass
-returns-2 c = rw (← c .before .before .before .before .pre, ← c .before .before .is-constant .ensures, c .before .if1 .left, ← c .terminate .ensures)
-
 pub left-on-glass-spec : {M : Type 1} → statement M
-left-on-glass-spec = tie.close (tie.spec (λ c κs. search needs) returns (λ c κs. search needs) returns-2)
+unfolding leftOnGlass
+left-on-glass-spec = tie.close (tie.spec (λ c κs. search needs)
+    (λ c. rw (← c .before .before .before .pre, ← c .before .is-constant .ensures, c .if1 .taken)) (λ c κs. search needs)
+    (λ c. rw (← c .before .before .before .before .pre, ← c .before .before .is-constant .ensures, c .before .if1 .left, ← c .terminate .ensures)))

@@ -5,9 +5,6 @@ use Rattle.path.specs.Answer.{outcome}
 use Rattle.path.proofs.bsdf.lost.Statement.{statement}
 use Rattle.path.proofs.bsdf.lost.Tie as tie
 
-returns : tie.Need-returns
-unfolding outcome ofBits
-returns c = rw (← c .weighed .ensures)
-
 pub lost-spec : {M : Type 1} → statement M
-lost-spec = tie.close (tie.spec (λ c κs. search needs) returns)
+unfolding outcome ofBits
+lost-spec = tie.close (tie.spec (λ c κs. search needs) (λ c. rw (← c .weighed .ensures)))

@@ -12,160 +12,63 @@ use Rattle.path.proofs.bsdf.on_glass.Tie as tie
 returns : tie.Need-returns
 unfolding onSurface lambdaOn leftOn scatter scatterOn localWo leadingEta facet facetOf share fresnelAt shares sharesOn rest advanced weights weightsFrom weightsOf ofBits
 returns c =
-    let at-match = c .before in
-    let at-sample-from = at-match .before in
-    let at-f-at = at-sample-from .before in
-    let at-normal = at-f-at .before in
-    let at-to-local = at-normal .before .before in
-    let at-new = at-to-local .before in
-    let at-constants = at-new .before in
-    let at-leading-sample = at-constants .before in
-    let at-left-on-glass = at-leading-sample .before .before in
-    let at-pre = at-left-on-glass .before .before .before in
-    let leading = at-leading-sample .leading-sample .ensures in
+    let at-f-at = c .before .before .before in
+    let at-to-local = at-f-at .before .before .before in
+    let at-constants = at-to-local .before .before in
+    let leading = at-constants .before .leading-sample .ensures in
     let index = at-constants .optical-constants .ensures .0 in
     let absorption = at-constants .optical-constants .ensures .1 in
-    let basis = at-new .new .ensures in
+    let basis = at-to-local .before .new .ensures in
     let wo = at-to-local .to-local .ensures in
-    let wh = at-normal .normal .ensures in
+    let wh = at-f-at .before .normal .ensures in
     let share-of = at-f-at .f-at .ensures in
-    let none = at-match .match .keys2 in
-    rw (
-      at-pre .pre .0,
-      ← at-left-on-glass .left-on-glass .ensures,
-      ← leading,
-      ← index,
-      ← absorption,
-      ← basis,
-      ← wo,
-      ← wh,
-      ← share-of,
-      ← at-sample-from .sample-from .ensures,
-      no-weight _ none,
-      no-weight _ none,
-      no-weight _ none,
-      no-weight _ none,
-      no-direction _ none,
-      ← leading,
-      ← index,
-      ← absorption,
-      ← basis,
-      ← wo,
-      ← wh,
-      ← share-of,
-      ← c .lost .ensures,
-    )
+    let none = c .before .match .keys2 in
+    rw (at-constants .before .before .before .before .before .before .pre .0, ← at-constants .before .before .before .left-on-glass .ensures, ← leading, ← index, ← absorption, ← basis, ← wo, ← wh, ← share-of)
+    (rw (← c .before .before .sample-from .ensures, no-weight _ none, no-weight _ none, no-weight _ none, no-weight _ none, no-direction _ none)
+    (rw (← leading, ← index, ← absorption, ← basis, ← wo, ← wh, ← share-of, ← c .lost .ensures)))
 
 returns-2 : tie.Need-returns-2
 unfolding onSurface lambdaOn leftOn scatter scatterOn localWo leadingEta facet facetOf share fresnelAt shares sharesOn rest advanced weights weightsFrom weightsOf ofBits worked weightFrom branchOf density pdf pdfOf filter shadowingOn oneDirection outcome sampled
 returns-2 c =
-    let at-weights = c .before in
-    let at-if1 = at-weights .before in
-    let at-to-world = at-if1 .before in
-    let at-density-of = at-to-world .before in
-    let at-seen = at-density-of .before in
-    let at-wi = at-seen .before .before in
-    let at-sample-from = at-wi .before .before in
-    let at-f-at = at-sample-from .before in
-    let at-normal = at-f-at .before in
-    let at-to-local = at-normal .before .before in
-    let at-new = at-to-local .before in
-    let at-constants = at-new .before in
-    let at-leading-sample = at-constants .before in
-    let at-left-on-glass = at-leading-sample .before .before in
-    let at-pre = at-left-on-glass .before .before .before in
-    let leading = at-leading-sample .leading-sample .ensures in
+    let at-f-at = c .before .before .before .before .before .before .before .before .before .before in
+    let at-to-local = at-f-at .before .before .before in
+    let at-constants = at-to-local .before .before in
+    let leading = at-constants .before .leading-sample .ensures in
     let index = at-constants .optical-constants .ensures .0 in
     let absorption = at-constants .optical-constants .ensures .1 in
-    let basis = at-new .new .ensures in
+    let basis = at-to-local .before .new .ensures in
     let wo = at-to-local .to-local .ensures in
-    let wh = at-normal .normal .ensures in
+    let wh = at-f-at .before .normal .ensures in
     let share-of = at-f-at .f-at .ensures in
-    rw (
-      at-pre .pre .0,
-      ← at-left-on-glass .left-on-glass .ensures,
-      ← leading,
-      ← index,
-      ← absorption,
-      ← basis,
-      ← wo,
-      ← wh,
-      ← share-of,
-      ← at-sample-from .sample-from .ensures,
-      at-wi .wi .given .1,
-      ← leading,
-      ← index,
-      ← absorption,
-      ← basis,
-      ← wo,
-      ← wh,
-      ← share-of,
-      ← at-seen .seen-on-glass .ensures .0,
-      ← at-density-of .density-of .ensures,
-      ← at-to-world .to-world .ensures,
-      at-if1 .if1 .taken,
-      c .weighed .ensures,
-      at-weights .weights .ensures,
-      at-seen .seen-on-glass .ensures .1,
-    )
+    let at-density-of = c .before .before .before .before in
+    let seen = at-density-of .before .seen-on-glass .ensures in
+    rw (at-constants .before .before .before .before .before .before .pre .0, ← at-constants .before .before .before .left-on-glass .ensures, ← leading, ← index, ← absorption, ← basis, ← wo, ← wh, ← share-of)
+    (rw (← at-density-of .before .before .before .before .before .sample-from .ensures, at-density-of .before .before .before .wi .given .1, ← leading, ← index, ← absorption, ← basis, ← wo, ← wh, ← share-of)
+    (rw (← seen .0, ← at-density-of .density-of .ensures, ← c .before .before .before .to-world .ensures, c .before .before .if1 .taken)
+    (rw (c .weighed .ensures, c .before .weights .ensures, seen .1))))
 
 returns-3 : tie.Need-returns-3
 unfolding onSurface lambdaOn leftOn scatter scatterOn localWo leadingEta facet facetOf share fresnelAt shares sharesOn rest advanced weights weightsFrom weightsOf ofBits worked weightFrom branchOf density pdf pdfOf filter shadowingOn oneDirection outcome sampled
 returns-3 c =
-    let at-weights2 = c .before in
-    let at-if1 = at-weights2 .before in
-    let at-to-world = at-if1 .before in
-    let at-density-of = at-to-world .before in
-    let at-seen = at-density-of .before in
-    let at-wi = at-seen .before .before in
-    let at-sample-from = at-wi .before .before in
-    let at-f-at = at-sample-from .before in
-    let at-normal = at-f-at .before in
-    let at-to-local = at-normal .before .before in
-    let at-new = at-to-local .before in
-    let at-constants = at-new .before in
-    let at-leading-sample = at-constants .before in
-    let at-left-on-glass = at-leading-sample .before .before in
-    let at-pre = at-left-on-glass .before .before .before in
-    let leading = at-leading-sample .leading-sample .ensures in
+    let at-f-at = c .before .before .before .before .before .before .before .before .before .before in
+    let at-to-local = at-f-at .before .before .before in
+    let at-constants = at-to-local .before .before in
+    let leading = at-constants .before .leading-sample .ensures in
     let index = at-constants .optical-constants .ensures .0 in
     let absorption = at-constants .optical-constants .ensures .1 in
-    let basis = at-new .new .ensures in
+    let basis = at-to-local .before .new .ensures in
     let wo = at-to-local .to-local .ensures in
-    let wh = at-normal .normal .ensures in
+    let wh = at-f-at .before .normal .ensures in
     let share-of = at-f-at .f-at .ensures in
-    rw (
-      at-pre .pre .0,
-      ← at-left-on-glass .left-on-glass .ensures,
-      ← leading,
-      ← index,
-      ← absorption,
-      ← basis,
-      ← wo,
-      ← wh,
-      ← share-of,
-      ← at-sample-from .sample-from .ensures,
-      at-wi .wi .given .1,
-      ← leading,
-      ← index,
-      ← absorption,
-      ← basis,
-      ← wo,
-      ← wh,
-      ← share-of,
-      ← at-seen .seen-on-glass .ensures .0,
-      ← at-density-of .density-of .ensures,
-      ← at-to-world .to-world .ensures,
-      at-if1 .if1 .left,
-      c .weighed2 .ensures,
-      at-weights2 .weights2 .ensures,
-      at-seen .seen-on-glass .ensures .1,
-    )
+    let at-density-of = c .before .before .before .before in
+    let seen = at-density-of .before .seen-on-glass .ensures in
+    rw (at-constants .before .before .before .before .before .before .pre .0, ← at-constants .before .before .before .left-on-glass .ensures, ← leading, ← index, ← absorption, ← basis, ← wo, ← wh, ← share-of)
+    (rw (← at-density-of .before .before .before .before .before .sample-from .ensures, at-density-of .before .before .before .wi .given .1, ← leading, ← index, ← absorption, ← basis, ← wo, ← wh, ← share-of)
+    (rw (← seen .0, ← at-density-of .density-of .ensures, ← c .before .before .before .to-world .ensures, c .before .before .if1 .left)
+    (rw (c .weighed2 .ensures, c .before .weights2 .ensures, seen .1))))
 
 pub on-glass-spec : {M : Type 1} → statement M
-on-glass-spec =
-    tie.close
-    (tie.spec (λ c κs. search needs) (λ c κs. search needs) (λ c κs. search needs) (λ c κs. search needs) (λ c κs. search needs)
+on-glass-spec = tie.close (tie.spec (λ c κs. search needs) (λ c κs. search needs) (λ c κs. search needs) (λ c κs. search needs) (λ c κs. search needs)
     (λ c κs. search needs) (λ c κs. search needs) (λ c κs. search needs) (λ c. search needs) (λ c κs. search needs) returns
     (λ c κs. search needs) (λ c κs. search needs) (λ c κs. search needs) (λ c κs. search needs) (λ c κs. search needs) returns-2
     (λ c κs. search needs) (λ c κs. search needs) returns-3)

@@ -4,14 +4,10 @@ use Rattle.path.specs.Many.{bounceIn}
 use Rattle.path.proofs.many.bounce_in.Statement.{statement}
 use Rattle.path.proofs.many.bounce_in.Tie as tie
 
-returns : tie.Need-returns
-unfolding bounceIn
-returns c = rw (← c .before .before .before .before .before .before .before .before .before .before .before .before .is-set .ensures)
-
 pub bounce-in-spec : {M : Type 1} → statement M
-bounce-in-spec =
-    tie.close
-    (tie.spec (λ c. search needs) (λ c. search needs) (λ c. search needs) (λ c. search needs) (λ c. search needs) (λ c. search needs)
-    (λ c. search needs) (λ c κs. search needs) (λ c. search needs) (λ c. search needs) (λ c. search needs) (λ c. search needs) (λ c. search needs)
+unfolding bounceIn
+bounce-in-spec = tie.close (tie.spec (λ c. search needs) (λ c. search needs) (λ c. search needs) (λ c. search needs) (λ c. search needs)
+    (λ c. search needs) (λ c. search needs) (λ c κs. search needs) (λ c. search needs) (λ c. search needs) (λ c. search needs) (λ c. search needs)
     (λ c. search needs) (λ c. search needs) (λ c. search needs) (λ c. search needs) (λ c. search needs) (λ c. search needs) (λ c. search needs)
-    returns)
+    (λ c. search needs)
+    (λ c. rw (← c .before .before .before .before .before .before .before .before .before .before .before .before .is-set .ensures)))

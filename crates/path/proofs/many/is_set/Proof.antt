@@ -5,9 +5,6 @@ use Rattle.path.specs.Many.{isSet}
 use Rattle.path.proofs.many.is_set.Statement.{statement}
 use Rattle.path.proofs.many.is_set.Tie as tie
 
-returns : tie.Need-returns
-unfolding isSet ofBits
-returns c = refl
-
 pub is-set-spec : {M : Type 1} → statement M
-is-set-spec = tie.close (tie.spec returns)
+unfolding isSet ofBits
+is-set-spec = tie.close (tie.spec (λ c. refl))

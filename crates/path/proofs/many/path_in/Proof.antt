@@ -5,12 +5,7 @@ use Rattle.path.specs.Many.{pathIn}
 use Rattle.path.proofs.many.path_in.Statement.{statement}
 use Rattle.path.proofs.many.path_in.Tie as tie
 
-returns : tie.Need-returns
-unfolding pathIn
-returns c = refl
-
 pub path-in-spec : {M : Type 1} → statement M
-path-in-spec =
-    tie.close
-    (tie.spec (λ c. search needs) (λ c. search needs) (λ c. search needs) (λ c. search needs) (λ c. search needs) (λ c. search needs)
-    (λ c. search needs) (λ c. search needs) returns)
+unfolding pathIn
+path-in-spec = tie.close (tie.spec (λ c. search needs) (λ c. search needs) (λ c. search needs) (λ c. search needs) (λ c. search needs)
+    (λ c. search needs) (λ c. search needs) (λ c. search needs) (λ c. refl))

@@ -28,10 +28,6 @@ turn out out₀ xs at j e room more =
     ∙ paste-suc out₀ at xs j nan room more
     ∙ ap (λ (n : ℕ). paste out₀ at xs n) (sym (add-one j))
 
-loop-holds : tie.Need-loop-holds Inv-loop μ-loop
-loop-holds c =
-    (omega arith, paste-zero (now (c .args .output)) (c .args .at) (now (c .args .numbers)), refl, c .pre .1)
-
 loop-again : tie.Need-loop-again Inv-loop μ-loop
 loop-again c =
     let at-loop = c .before .before in
@@ -44,9 +40,6 @@ loop-again c =
       inv .3,
     )
 
-same-length : tie.Need-same-length Inv-loop μ-loop
-same-length c = c .before .loop .inv .2
-
 returns : tie.Need-returns Inv-loop μ-loop
 returns c =
     let inv = c .before .loop .inv in
@@ -55,7 +48,7 @@ returns c =
     ∙ ap (λ (n : ℕ). paste (now (args .output)) (args .at) (now (args .numbers)) n) (le-antisymm (inv .0) (c .loop-test .left))
 
 pub put-spec : {M : Type 1} → statement M
-put-spec =
-    tie.close
-    (tie.spec Inv-loop μ-loop loop-holds (λ c. search needs) (λ c. search needs) (λ c. omega arith) (λ c. search needs) (λ c. omega arith)
-    (λ c. omega arith) (λ c. omega arith) loop-again same-length returns)
+put-spec = tie.close (tie.spec Inv-loop μ-loop
+    (λ c. (omega arith, paste-zero (now (c .args .output)) (c .args .at) (now (c .args .numbers)), refl, c .pre .1))
+    (λ c. search needs) (λ c. search needs) (λ c. omega arith) (λ c. search needs) (λ c. omega arith) (λ c. omega arith) (λ c. omega arith) loop-again
+    (λ c. c .before .loop .inv .2) returns)

@@ -38,13 +38,6 @@ as-long : (m : Microsurface) (input output next : List Float) (i : ℕ)
 as-long m input output next i room f =
     ap length f ∙ length-paste output (18 * i) (bouncedAt m input i) 18 room (le-of-eq (sym (length-bouncedAt m input i)))
 
-loop-holds : tie.Need-loop-holds Inv-loop μ-loop
-unfolding allBounced
-loop-holds c = (omega arith, refl, refl)
-
-step-requires : tie.Need-step-requires Inv-loop μ-loop
-step-requires c κs = (omega arith, omega arith, c .before .before .before .before .before .before .before .pre .2, c .before .before .before .before .before .before .before .pre .3)
-
 loop-again : tie.Need-loop-again Inv-loop μ-loop
 loop-again c =
     let at-loop = c .before .before .before .before .before in
@@ -57,9 +50,6 @@ loop-again c =
       as-long m (now (args .input)) (at-loop .loop .output) _ (at-loop .loop .i) (omega arith) stored ∙ inv .2,
     )
 
-same-length : tie.Need-same-length Inv-loop μ-loop
-same-length c = c .before .loop .inv .2
-
 returns : tie.Need-returns Inv-loop μ-loop
 returns c =
     let at-loop = c .before in
@@ -70,4 +60,7 @@ returns c =
     (le-antisymm (at-loop .loop .inv .0) (c .loop-test .left))
 
 pub run-spec : {M : Type 1} → statement M
-run-spec = tie.close (tie.spec Inv-loop μ-loop loop-holds step-requires (λ c. omega arith) (λ c. omega arith) loop-again same-length returns)
+unfolding allBounced
+run-spec = tie.close (tie.spec Inv-loop μ-loop (λ c. (omega arith, refl, refl))
+    (λ c κs. let p = c .before .before .before .before .before .before .before in (omega arith, omega arith, p .pre .2, p .pre .3))
+    (λ c. omega arith) (λ c. omega arith) loop-again (λ c. c .before .loop .inv .2) returns)

@@ -14,9 +14,6 @@ use Rattle.path.proofs.ManyBounces.{length-bounced}
 use Rattle.path.proofs.many.step.Statement.{statement}
 use Rattle.path.proofs.many.step.Tie as tie
 
-put-requires : tie.Need-put-requires
-put-requires c κs = (omega arith, ap length (c .before .before .one .ensures) ∙ length-bounced _ _)
-
 -- as many as there are from a number up to 27 more
 span : (n : ℕ) → n + 27 - n ≡ 27
 span n = omega arith
@@ -33,7 +30,6 @@ returns c =
     ∙ ap (λ (n : ℕ). bounced m (take n (drop (27 * args .i) (now (args .input))))) (span (27 * args .i)))
 
 pub step-spec : {M : Type 1} → statement M
-step-spec =
-    tie.close
-    (tie.spec (λ c. search needs) (λ c. search needs) (λ c. search needs) (λ c. search needs) (λ c. search needs) (λ c. search needs)
-    (λ c κs. search needs) (λ c. search needs) put-requires (λ c. search needs) returns)
+step-spec = tie.close (tie.spec (λ c. search needs) (λ c. search needs) (λ c. search needs) (λ c. search needs) (λ c. search needs)
+    (λ c. search needs) (λ c κs. search needs) (λ c. search needs)
+    (λ c κs. (omega arith, ap length (c .before .before .one .ensures) ∙ length-bounced _ _)) (λ c. search needs) returns)

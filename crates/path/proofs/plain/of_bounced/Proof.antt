@@ -6,24 +6,10 @@ use Rattle.path.specs.Plain.{bounceResult}
 use Rattle.path.proofs.plain.of_bounced.Statement.{statement}
 use Rattle.path.proofs.plain.of_bounced.Tie as tie
 
-returns : tie.Need-returns
-unfolding bounceResult outcome ofBits
-returns c = rw (c .before .before .answer .given .1, ← c .number .ensures)
-
-returns-2 : tie.Need-returns-2
-unfolding bounceResult outcome ofBits
-returns-2 c = rw (c .before .before .answer2 .given .1, ← c .of-shares .ensures)
-
-returns-3 : tie.Need-returns-3
-unfolding bounceResult outcome ofBits
-returns-3 c = rw (c .before .before .before .answer3 .given .1, ← c .before .of-density .ensures, ← c .of-shares2 .ensures)
-
-returns-4 : tie.Need-returns-4
-unfolding bounceResult outcome ofBits
-returns-4 c = rw (c .before .before .before .answer4 .given .1, ← c .before .of-density2 .ensures, ← c .of-shares3 .ensures)
-
 pub of-bounced-spec : {M : Type 1} → statement M
-of-bounced-spec =
-    tie.close
-    (tie.spec (λ c. search needs) (λ c κs. search needs) (λ c. search needs) (λ c κs. search needs) (λ c. search needs) (λ c κs. search needs)
-    (λ c κs. search needs) (λ c. search needs) (λ c κs. search needs) (λ c κs. search needs) returns returns-2 returns-3 returns-4)
+unfolding bounceResult outcome ofBits
+of-bounced-spec = tie.close (tie.spec (λ c. search needs) (λ c κs. search needs) (λ c. search needs) (λ c κs. search needs) (λ c. search needs)
+    (λ c κs. search needs) (λ c κs. search needs) (λ c. search needs) (λ c κs. search needs) (λ c κs. search needs)
+    (λ c. rw (c .before .before .answer .given .1, ← c .number .ensures)) (λ c. rw (c .before .before .answer2 .given .1, ← c .of-shares .ensures))
+    (λ c. rw (c .before .before .before .answer3 .given .1, ← c .before .of-density .ensures, ← c .of-shares2 .ensures))
+    (λ c. rw (c .before .before .before .answer4 .given .1, ← c .before .of-density2 .ensures, ← c .of-shares3 .ensures)))

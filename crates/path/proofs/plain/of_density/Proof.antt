@@ -5,13 +5,6 @@ use Rattle.path.specs.Plain.{densityRecord}
 use Rattle.path.proofs.plain.of_density.Statement.{statement}
 use Rattle.path.proofs.plain.of_density.Tie as tie
 
-returns : tie.Need-returns
-unfolding densityRecord ofBits
-returns c = rw (c .before .density .given .1)
-
-returns-2 : tie.Need-returns-2
-unfolding densityRecord ofBits
-returns-2 c = rw (c .enum-told .given .1)
-
 pub of-density-spec : {M : Type 1} → statement M
-of-density-spec = tie.close (tie.spec (λ c. search needs) (λ c. search needs) returns returns-2)
+unfolding densityRecord ofBits
+of-density-spec = tie.close (tie.spec (λ c. search needs) (λ c. search needs) (λ c. rw (c .before .density .given .1)) (λ c. rw (c .enum-told .given .1)))

@@ -5,13 +5,6 @@ use Rattle.path.specs.Plain.{sharesRecord}
 use Rattle.path.proofs.plain.of_shares.Statement.{statement}
 use Rattle.path.proofs.plain.of_shares.Tie as tie
 
-returns : tie.Need-returns
-unfolding sharesRecord ofBits
-returns c = rw (c .enum-told .given .1)
-
-returns-2 : tie.Need-returns-2
-unfolding sharesRecord ofBits
-returns-2 c = rw (c .before .shares .given .1)
-
 pub of-shares-spec : {M : Type 1} → statement M
-of-shares-spec = tie.close (tie.spec (λ c. search needs) (λ c. search needs) returns returns-2)
+unfolding sharesRecord ofBits
+of-shares-spec = tie.close (tie.spec (λ c. search needs) (λ c. search needs) (λ c. rw (c .enum-told .given .1)) (λ c. rw (c .before .shares .given .1)))

@@ -4,9 +4,6 @@ use Rattle.path.specs.Path.{leading}
 use Rattle.path.proofs.wavelength.leading_sample.Statement.{statement}
 use Rattle.path.proofs.wavelength.leading_sample.Tie as tie
 
-returns : tie.Need-returns
-unfolding leading
-returns c = refl
-
 pub leading-sample-spec : {M : Type 1} → statement M
-leading-sample-spec = tie.close (tie.spec returns)
+unfolding leading
+leading-sample-spec = tie.close (tie.spec (λ c. refl))

@@ -5,9 +5,6 @@ use Rattle.path.specs.Path.{terminate, leading}
 use Rattle.path.proofs.wavelength.terminate.Statement.{statement}
 use Rattle.path.proofs.wavelength.terminate.Tie as tie
 
-returns : tie.Need-returns
-unfolding terminate leading ofBits
-returns c = rw (← c .leading-sample .ensures)
-
 pub terminate-spec : {M : Type 1} → statement M
-terminate-spec = tie.close (tie.spec (λ c κs. search needs) returns)
+unfolding terminate leading ofBits
+terminate-spec = tie.close (tie.spec (λ c κs. search needs) (λ c. rw (← c .leading-sample .ensures)))

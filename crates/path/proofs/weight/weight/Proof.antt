@@ -1,4 +1,4 @@
--- `path::weight::weight` meets its contract: the calls give what their contracts promise, and the definition is read in the same order.
+-- `path::weight::weight` meets its contract: by the test of the wavelength.
 use lib.Ieee.{ofBits}
 use Rattle.path.specs.Bounce.{weight}
 use Rattle.path.proofs.weight.weight.Statement.{statement}

@@ -5,12 +5,7 @@ use Rattle.path.specs.Many.{pathIn}
 use Rattle.rulvimba.proofs.paths.load.Statement.{statement}
 use Rattle.rulvimba.proofs.paths.load.Tie as tie
 
-returns : tie.Need-returns
-unfolding pathIn
-returns c = refl
-
 pub load-spec : {M : Type 1} → statement M
-load-spec =
-    tie.close
-    (tie.spec (λ c. search needs) (λ c. search needs) (λ c. search needs) (λ c. search needs) (λ c. search needs) (λ c. search needs)
-    (λ c. search needs) (λ c. search needs) returns)
+unfolding pathIn
+load-spec = tie.close (tie.spec (λ c. search needs) (λ c. search needs) (λ c. search needs) (λ c. search needs) (λ c. search needs)
+    (λ c. search needs) (λ c. search needs) (λ c. search needs) (λ c. refl))

@@ -3,10 +3,8 @@ use borrow.Author.Needs.{needs}
 use Rattle.rulvimba.proofs.paths.rulvimba_bounce.Statement.{statement}
 use Rattle.rulvimba.proofs.paths.rulvimba_bounce.Tie as tie
 
-returns : tie.Need-returns
-returns c = rw (← c .before .before .before .before .before .load .ensures, ← c .before .before .before .before .of-record .ensures, ← c .before .before .before .bounce .ensures) (c .of-bounced .ensures, c .before .keep .ensures)
-
 pub rulvimba-bounce-spec : {M : Type 1} → statement M
-rulvimba-bounce-spec =
-    tie.close
-    (tie.spec (λ c κs. search needs) (λ c κs. search needs) (λ c κs. search needs) (λ c κs. search needs) (λ c κs. search needs) returns)
+rulvimba-bounce-spec = tie.close (tie.spec (λ c κs. search needs) (λ c κs. search needs) (λ c κs. search needs) (λ c κs. search needs)
+    (λ c κs. search needs)
+    (λ c. let p = c .before .before .before in
+    rw (← p .before .before .load .ensures, ← p .before .of-record .ensures, ← p .bounce .ensures) (c .of-bounced .ensures, c .before .keep .ensures)))

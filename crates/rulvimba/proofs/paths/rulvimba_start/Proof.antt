@@ -6,15 +6,8 @@ use Rattle.rulvimba.specs.Paths.{startNumber, pathStarted}
 use Rattle.rulvimba.proofs.paths.rulvimba_start.Statement.{statement}
 use Rattle.rulvimba.proofs.paths.rulvimba_start.Tie as tie
 
-returns : tie.Need-returns
-unfolding startNumber pathStarted started
-returns c = rw (← c .before .before .before .before .start .ensures, c .before .before .why .given .1) (c .number .ensures, refl)
-
-returns-2 : tie.Need-returns-2
-unfolding startNumber pathStarted started
-returns-2 c = rw (← c .before .before .before .before .before .start .ensures, c .before .before .before .made .given .1) (refl, c .store .ensures)
-
 pub rulvimba-start-spec : {M : Type 1} → statement M
-rulvimba-start-spec =
-    tie.close
-    (tie.spec (λ c κs. search needs) (λ c. search needs) (λ c κs. search needs) (λ c. search needs) (λ c κs. search needs) returns returns-2)
+unfolding startNumber pathStarted started
+rulvimba-start-spec = tie.close (tie.spec (λ c κs. search needs) (λ c. search needs) (λ c κs. search needs) (λ c. search needs) (λ c κs. search needs)
+    (λ c. rw (← c .before .before .before .before .start .ensures, c .before .before .why .given .1) (c .number .ensures, refl))
+    (λ c. rw (← c .before .before .before .before .before .start .ensures, c .before .before .before .made .given .1) (refl, c .store .ensures)))

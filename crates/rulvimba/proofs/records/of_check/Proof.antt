@@ -5,13 +5,7 @@ use Rattle.rulvimba.specs.Results.{checkNumber}
 use Rattle.rulvimba.proofs.records.of_check.Statement.{statement}
 use Rattle.rulvimba.proofs.records.of_check.Tie as tie
 
-returns : tie.Need-returns
-unfolding checkNumber verdict
-returns c = rw (c .enum-told .given .1)
-
-returns-2 : tie.Need-returns-2
-unfolding checkNumber verdict
-returns-2 c = rw (c .before .before .check .given .1, ← c .number .ensures)
-
 pub of-check-spec : {M : Type 1} → statement M
-of-check-spec = tie.close (tie.spec (λ c. search needs) (λ c. search needs) (λ c κs. search needs) returns returns-2)
+unfolding checkNumber verdict
+of-check-spec = tie.close (tie.spec (λ c. search needs) (λ c. search needs) (λ c κs. search needs) (λ c. rw (c .enum-told .given .1))
+    (λ c. rw (c .before .before .check .given .1, ← c .number .ensures)))

@@ -6,13 +6,7 @@ use Rattle.rulvimba.specs.Results.{colorResult}
 use Rattle.rulvimba.proofs.records.of_color.Statement.{statement}
 use Rattle.rulvimba.proofs.records.of_color.Tie as tie
 
-returns : tie.Need-returns
-unfolding colorResult colorAnswer ofBits
-returns c = rw (c .before .before .answer .given .1, ← c .number .ensures)
-
-returns-2 : tie.Need-returns-2
-unfolding colorResult colorAnswer ofBits
-returns-2 c = rw (c .before .answer2 .given .1)
-
 pub of-color-spec : {M : Type 1} → statement M
-of-color-spec = tie.close (tie.spec (λ c. search needs) (λ c κs. search needs) (λ c. search needs) returns returns-2)
+unfolding colorResult colorAnswer ofBits
+of-color-spec = tie.close (tie.spec (λ c. search needs) (λ c κs. search needs) (λ c. search needs)
+    (λ c. rw (c .before .before .answer .given .1, ← c .number .ensures)) (λ c. rw (c .before .answer2 .given .1)))

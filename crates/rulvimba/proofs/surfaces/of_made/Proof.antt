@@ -6,13 +6,8 @@ use Rattle.rulvimba.specs.Surfaces.{surfaceResult, surfaceRecord}
 use Rattle.rulvimba.proofs.surfaces.of_made.Statement.{statement}
 use Rattle.rulvimba.proofs.surfaces.of_made.Tie as tie
 
-returns : tie.Need-returns
-unfolding surfaceResult surfaceAnswer surfaceRecord ofBits
-returns c = rw (c .before .before .answer .given .1, ← c .number .ensures)
-
-returns-2 : tie.Need-returns-2
-unfolding surfaceResult surfaceAnswer surfaceRecord ofBits
-returns-2 c = rw (c .before .before .before .answer2 .given .1, ← c .code .ensures)
-
 pub of-made-spec : {M : Type 1} → statement M
-of-made-spec = tie.close (tie.spec (λ c. search needs) (λ c κs. search needs) (λ c. search needs) (λ c κs. search needs) returns returns-2)
+unfolding surfaceResult surfaceAnswer surfaceRecord ofBits
+of-made-spec = tie.close (tie.spec (λ c. search needs) (λ c κs. search needs) (λ c. search needs) (λ c κs. search needs)
+    (λ c. rw (c .before .before .answer .given .1, ← c .number .ensures))
+    (λ c. rw (c .before .before .before .answer2 .given .1, ← c .code .ensures)))

@@ -4,9 +4,7 @@ use Rattle.rulvimba.specs.Surfaces.{surfaceOf}
 use Rattle.rulvimba.proofs.surfaces.of_record.Statement.{statement}
 use Rattle.rulvimba.proofs.surfaces.of_record.Tie as tie
 
-returns : tie.Need-returns
-unfolding surfaceOf
-returns c = rw (← c .before .before .of-code .ensures, ← c .before .roughness-of .ensures, ← c .roughness-of2 .ensures)
-
 pub of-record-spec : {M : Type 1} → statement M
-of-record-spec = tie.close (tie.spec (λ c κs. search needs) (λ c κs. search needs) (λ c κs. search needs) returns)
+unfolding surfaceOf
+of-record-spec = tie.close (tie.spec (λ c κs. search needs) (λ c κs. search needs) (λ c κs. search needs)
+    (λ c. rw (← c .before .before .of-code .ensures, ← c .before .roughness-of .ensures, ← c .roughness-of2 .ensures)))

@@ -3,8 +3,6 @@ use borrow.Author.Needs.{needs}
 use Rattle.rulvimba.proofs.terms.rulvimba_g.Statement.{statement}
 use Rattle.rulvimba.proofs.terms.rulvimba_g.Tie as tie
 
-returns : tie.Need-returns
-returns c = rw (← c .before .before .of-record .ensures, ← c .before .g .ensures, ← c .of-float .ensures)
-
 pub rulvimba-g-spec : {M : Type 1} → statement M
-rulvimba-g-spec = tie.close (tie.spec (λ c κs. search needs) (λ c κs. search needs) (λ c κs. search needs) returns)
+rulvimba-g-spec = tie.close (tie.spec (λ c κs. search needs) (λ c κs. search needs) (λ c κs. search needs)
+    (λ c. rw (← c .before .before .of-record .ensures, ← c .before .g .ensures, ← c .of-float .ensures)))

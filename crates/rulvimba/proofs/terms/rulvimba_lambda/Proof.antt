@@ -3,8 +3,6 @@ use borrow.Author.Needs.{needs}
 use Rattle.rulvimba.proofs.terms.rulvimba_lambda.Statement.{statement}
 use Rattle.rulvimba.proofs.terms.rulvimba_lambda.Tie as tie
 
-returns : tie.Need-returns
-returns c = rw (← c .before .before .of-record .ensures, ← c .before .lambda .ensures, ← c .of-float .ensures)
-
 pub rulvimba-lambda-spec : {M : Type 1} → statement M
-rulvimba-lambda-spec = tie.close (tie.spec (λ c κs. search needs) (λ c κs. search needs) (λ c κs. search needs) returns)
+rulvimba-lambda-spec = tie.close (tie.spec (λ c κs. search needs) (λ c κs. search needs) (λ c κs. search needs)
+    (λ c. rw (← c .before .before .of-record .ensures, ← c .before .lambda .ensures, ← c .of-float .ensures)))

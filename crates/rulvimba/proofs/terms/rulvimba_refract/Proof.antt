@@ -3,8 +3,6 @@ use borrow.Author.Needs.{needs}
 use Rattle.rulvimba.proofs.terms.rulvimba_refract.Statement.{statement}
 use Rattle.rulvimba.proofs.terms.rulvimba_refract.Tie as tie
 
-returns : tie.Need-returns
-returns c = rw (← c .before .refract .ensures, ← c .of-refract .ensures)
-
 pub rulvimba-refract-spec : {M : Type 1} → statement M
-rulvimba-refract-spec = tie.close (tie.spec (λ c κs. search needs) (λ c κs. search needs) returns)
+rulvimba-refract-spec = tie.close (tie.spec (λ c κs. search needs) (λ c κs. search needs)
+    (λ c. rw (← c .before .refract .ensures, ← c .of-refract .ensures)))

@@ -5,9 +5,6 @@ use Rattle.numbers.specs.Complex.{fromFloat}
 use Rattle.numbers.proofs.complex.Complex.from.Statement.{statement}
 use Rattle.numbers.proofs.complex.Complex.from.Tie as tie
 
-returns : tie.Need-returns
-unfolding fromFloat ofBits
-returns c = refl
-
 pub from-spec : {M : Type 1} → statement M
-from-spec = tie.close (tie.spec returns)
+unfolding fromFloat ofBits
+from-spec = tie.close (tie.spec (λ c. refl))

@@ -4,9 +4,6 @@ use Rattle.numbers.specs.Complex.{norm}
 use Rattle.numbers.proofs.complex.Complex.norm.Statement.{statement}
 use Rattle.numbers.proofs.complex.Complex.norm.Tie as tie
 
-returns : tie.Need-returns
-unfolding norm
-returns c = rw (← c .before .norm-sqr .ensures, ← c .sqrt .ensures)
-
 pub norm-spec : {M : Type 1} → statement M
-norm-spec = tie.close (tie.spec (λ c κs. search needs) (λ c κs. search needs) returns)
+unfolding norm
+norm-spec = tie.close (tie.spec (λ c κs. search needs) (λ c κs. search needs) (λ c. rw (← c .before .norm-sqr .ensures, ← c .sqrt .ensures)))

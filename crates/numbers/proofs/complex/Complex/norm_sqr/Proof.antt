@@ -4,9 +4,6 @@ use Rattle.numbers.specs.Complex.{normSqr}
 use Rattle.numbers.proofs.complex.Complex.norm_sqr.Statement.{statement}
 use Rattle.numbers.proofs.complex.Complex.norm_sqr.Tie as tie
 
-returns : tie.Need-returns
-unfolding normSqr
-returns c = refl
-
 pub norm-sqr-spec : {M : Type 1} → statement M
-norm-sqr-spec = tie.close (tie.spec returns)
+unfolding normSqr
+norm-sqr-spec = tie.close (tie.spec (λ c. refl))

@@ -5,17 +5,8 @@ use Rattle.numbers.specs.Complex.{sinHalf}
 use Rattle.numbers.proofs.complex.Complex.sin_half.Statement.{statement}
 use Rattle.numbers.proofs.complex.Complex.sin_half.Tie as tie
 
-returns : tie.Need-returns
-unfolding sinHalf ofBits
-returns c = rw (c .if1 .taken)
-
-returns-2 : tie.Need-returns-2
-unfolding sinHalf ofBits
-returns-2 c = rw (c .before .before .before .before .if1 .left, ← c .before .before .sqrt-or-zero .ensures, ← c .before .is-sign-negative .ensures, c .if2 .taken)
-
-returns-3 : tie.Need-returns-3
-unfolding sinHalf ofBits
-returns-3 c = rw (c .before .before .before .before .if1 .left, ← c .before .before .sqrt-or-zero .ensures, ← c .before .is-sign-negative .ensures, c .if2 .left)
-
 pub sin-half-spec : {M : Type 1} → statement M
-sin-half-spec = tie.close (tie.spec returns (λ c κs. search needs) (λ c κs. search needs) returns-2 returns-3)
+unfolding sinHalf ofBits
+sin-half-spec = tie.close (tie.spec (λ c. rw (c .if1 .taken)) (λ c κs. search needs) (λ c κs. search needs)
+    (λ c. rw (c .before .before .before .before .if1 .left, ← c .before .before .sqrt-or-zero .ensures, ← c .before .is-sign-negative .ensures, c .if2 .taken))
+    (λ c. rw (c .before .before .before .before .if1 .left, ← c .before .before .sqrt-or-zero .ensures, ← c .before .is-sign-negative .ensures, c .if2 .left)))

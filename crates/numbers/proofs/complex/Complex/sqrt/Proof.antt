@@ -4,9 +4,7 @@ use Rattle.numbers.specs.Complex.{sqrt}
 use Rattle.numbers.proofs.complex.Complex.sqrt.Statement.{statement}
 use Rattle.numbers.proofs.complex.Complex.sqrt.Tie as tie
 
-returns : tie.Need-returns
-unfolding sqrt
-returns c = rw (← c .before .before .before .norm .ensures, ← c .before .before .sqrt .ensures, ← c .before .cos-half .ensures, ← c .sin-half .ensures)
-
 pub sqrt-spec : {M : Type 1} → statement M
-sqrt-spec = tie.close (tie.spec (λ c κs. search needs) (λ c κs. search needs) (λ c κs. search needs) (λ c κs. search needs) returns)
+unfolding sqrt
+sqrt-spec = tie.close (tie.spec (λ c κs. search needs) (λ c κs. search needs) (λ c κs. search needs) (λ c κs. search needs)
+    (λ c. rw (← c .before .before .before .norm .ensures, ← c .before .before .sqrt .ensures, ← c .before .cos-half .ensures, ← c .sin-half .ensures)))

@@ -4,9 +4,6 @@ use Rattle.numbers.specs.DenseSpectrum.{isConstant}
 use Rattle.numbers.proofs.dense_spectrum.DenseSpectrum.is_constant.Statement.{statement}
 use Rattle.numbers.proofs.dense_spectrum.DenseSpectrum.is_constant.Tie as tie
 
-returns : tie.Need-returns
-unfolding isConstant
-returns c = rw (← c .before .entry .ensures, ← c .all-equal .ensures)
-
 pub is-constant-spec : {M : Type 1} → statement M
-is-constant-spec = tie.close (tie.spec (λ c κs. search needs) (λ c κs. search needs) returns)
+unfolding isConstant
+is-constant-spec = tie.close (tie.spec (λ c κs. search needs) (λ c κs. search needs) (λ c. rw (← c .before .entry .ensures, ← c .all-equal .ensures)))

@@ -1,6 +1,6 @@
 -- `numbers::dense_spectrum::DenseSpectrum::sample_one` meets its contract: a read from the grid point is the lookup (`sample-from-point`).
 use borrow.Author.Needs.{needs}
-use Rattle.numbers.proofs.GridPoint.{sample-from-point}
+use Rattle.numbers.proofs.dense_spectrum.SampleFrom.{sample-from-point}
 use Rattle.numbers.proofs.dense_spectrum.DenseSpectrum.sample_one.Statement.{statement}
 use Rattle.numbers.proofs.dense_spectrum.DenseSpectrum.sample_one.Tie as tie
 

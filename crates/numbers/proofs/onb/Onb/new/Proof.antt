@@ -5,9 +5,6 @@ use Rattle.numbers.specs.Onb.{basis, slope, skew}
 use Rattle.numbers.proofs.onb.Onb.new.Statement.{statement}
 use Rattle.numbers.proofs.onb.Onb.new.Tie as tie
 
-returns : tie.Need-returns
-unfolding basis slope skew ofBits neg
-returns c = rw (← c .before .before .before .before .before .before .before .signum .ensures)
-
 pub new-spec : {M : Type 1} → statement M
-new-spec = tie.close (tie.spec (λ c κs. search needs) returns)
+unfolding basis slope skew ofBits neg
+new-spec = tie.close (tie.spec (λ c κs. search needs) (λ c. rw (← c .before .before .before .before .before .before .before .signum .ensures)))

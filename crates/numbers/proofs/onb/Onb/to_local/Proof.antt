@@ -4,9 +4,7 @@ use Rattle.numbers.specs.Onb.{toLocal}
 use Rattle.numbers.proofs.onb.Onb.to_local.Statement.{statement}
 use Rattle.numbers.proofs.onb.Onb.to_local.Tie as tie
 
-returns : tie.Need-returns
-unfolding toLocal
-returns c = rw (← c .before .before .dot .ensures, ← c .before .dot2 .ensures, ← c .dot3 .ensures)
-
 pub to-local-spec : {M : Type 1} → statement M
-to-local-spec = tie.close (tie.spec (λ c κs. search needs) (λ c κs. search needs) (λ c κs. search needs) returns)
+unfolding toLocal
+to-local-spec = tie.close (tie.spec (λ c κs. search needs) (λ c κs. search needs) (λ c κs. search needs)
+    (λ c. rw (← c .before .before .dot .ensures, ← c .before .dot2 .ensures, ← c .dot3 .ensures)))

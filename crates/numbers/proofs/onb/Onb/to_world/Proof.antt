@@ -4,11 +4,8 @@ use Rattle.numbers.specs.Onb.{toWorld}
 use Rattle.numbers.proofs.onb.Onb.to_world.Statement.{statement}
 use Rattle.numbers.proofs.onb.Onb.to_world.Tie as tie
 
-returns : tie.Need-returns
-unfolding toWorld
-returns c = rw (← c .before .before .before .before .float-mul .ensures, ← c .before .before .before .float-mul2 .ensures, ← c .before .before .float-mul3 .ensures, ← c .before .add .ensures, ← c .add2 .ensures)
-
 pub to-world-spec : {M : Type 1} → statement M
-to-world-spec =
-    tie.close
-    (tie.spec (λ c κs. search needs) (λ c κs. search needs) (λ c κs. search needs) (λ c κs. search needs) (λ c κs. search needs) returns)
+unfolding toWorld
+to-world-spec = tie.close (tie.spec (λ c κs. search needs) (λ c κs. search needs) (λ c κs. search needs) (λ c κs. search needs) (λ c κs. search needs)
+    (λ c. let p = c .before .before in
+    rw (← p .before .before .float-mul .ensures, ← p .before .float-mul2 .ensures, ← p .float-mul3 .ensures, ← c .before .add .ensures, ← c .add2 .ensures)))

@@ -4,9 +4,6 @@ use Rattle.numbers.specs.Vec2.{abs}
 use Rattle.numbers.proofs.vec2.Vec2.abs.Statement.{statement}
 use Rattle.numbers.proofs.vec2.Vec2.abs.Tie as tie
 
-returns : tie.Need-returns
-unfolding abs
-returns c = rw (← c .before .abs .ensures, ← c .abs2 .ensures)
-
 pub abs-spec : {M : Type 1} → statement M
-abs-spec = tie.close (tie.spec (λ c κs. search needs) (λ c κs. search needs) returns)
+unfolding abs
+abs-spec = tie.close (tie.spec (λ c κs. search needs) (λ c κs. search needs) (λ c. rw (← c .before .abs .ensures, ← c .abs2 .ensures)))

@@ -4,9 +4,6 @@ use Rattle.numbers.specs.Vec2.{max}
 use Rattle.numbers.proofs.vec2.Vec2.max.Statement.{statement}
 use Rattle.numbers.proofs.vec2.Vec2.max.Tie as tie
 
-returns : tie.Need-returns
-unfolding max
-returns c = rw (← c .before .max .ensures, ← c .max2 .ensures)
-
 pub max-spec : {M : Type 1} → statement M
-max-spec = tie.close (tie.spec (λ c κs. search needs) (λ c κs. search needs) returns)
+unfolding max
+max-spec = tie.close (tie.spec (λ c κs. search needs) (λ c κs. search needs) (λ c. rw (← c .before .max .ensures, ← c .max2 .ensures)))

@@ -4,9 +4,6 @@ use Rattle.numbers.specs.Vec2.{min}
 use Rattle.numbers.proofs.vec2.Vec2.min.Statement.{statement}
 use Rattle.numbers.proofs.vec2.Vec2.min.Tie as tie
 
-returns : tie.Need-returns
-unfolding min
-returns c = rw (← c .before .min .ensures, ← c .min2 .ensures)
-
 pub min-spec : {M : Type 1} → statement M
-min-spec = tie.close (tie.spec (λ c κs. search needs) (λ c κs. search needs) returns)
+unfolding min
+min-spec = tie.close (tie.spec (λ c κs. search needs) (λ c κs. search needs) (λ c. rw (← c .before .min .ensures, ← c .min2 .ensures)))

@@ -4,9 +4,7 @@ use Rattle.numbers.specs.Vec3.{abs}
 use Rattle.numbers.proofs.vec3.Vec3.abs.Statement.{statement}
 use Rattle.numbers.proofs.vec3.Vec3.abs.Tie as tie
 
-returns : tie.Need-returns
-unfolding abs
-returns c = rw (← c .before .before .abs .ensures, ← c .before .abs2 .ensures, ← c .abs3 .ensures)
-
 pub abs-spec : {M : Type 1} → statement M
-abs-spec = tie.close (tie.spec (λ c κs. search needs) (λ c κs. search needs) (λ c κs. search needs) returns)
+unfolding abs
+abs-spec = tie.close (tie.spec (λ c κs. search needs) (λ c κs. search needs) (λ c κs. search needs)
+    (λ c. rw (← c .before .before .abs .ensures, ← c .before .abs2 .ensures, ← c .abs3 .ensures)))

@@ -4,9 +4,6 @@ use Rattle.numbers.specs.Vec3.{cross}
 use Rattle.numbers.proofs.vec3.Vec3.cross.Statement.{statement}
 use Rattle.numbers.proofs.vec3.Vec3.cross.Tie as tie
 
-returns : tie.Need-returns
-unfolding cross
-returns c = refl
-
 pub cross-spec : {M : Type 1} → statement M
-cross-spec = tie.close (tie.spec returns)
+unfolding cross
+cross-spec = tie.close (tie.spec (λ c. refl))

@@ -5,9 +5,7 @@ use Rattle.numbers.specs.Vec3.{distance}
 use Rattle.numbers.proofs.vec3.Vec3.distance.Statement.{statement}
 use Rattle.numbers.proofs.vec3.Vec3.distance.Tie as tie
 
-returns : tie.Need-returns
-unfolding distance ofBits
-returns c = rw (← c .before .distance-squared .ensures, ← c .sqrt-or-zero .ensures)
-
 pub distance-spec : {M : Type 1} → statement M
-distance-spec = tie.close (tie.spec (λ c κs. search needs) (λ c κs. search needs) returns)
+unfolding distance ofBits
+distance-spec = tie.close (tie.spec (λ c κs. search needs) (λ c κs. search needs)
+    (λ c. rw (← c .before .distance-squared .ensures, ← c .sqrt-or-zero .ensures)))

@@ -4,9 +4,7 @@ use Rattle.numbers.specs.Vec3.{distanceSquared}
 use Rattle.numbers.proofs.vec3.Vec3.distance_squared.Statement.{statement}
 use Rattle.numbers.proofs.vec3.Vec3.distance_squared.Tie as tie
 
-returns : tie.Need-returns
-unfolding distanceSquared
-returns c = rw (← c .before .sub .ensures, ← c .length-squared .ensures)
-
 pub distance-squared-spec : {M : Type 1} → statement M
-distance-squared-spec = tie.close (tie.spec (λ c κs. search needs) (λ c κs. search needs) returns)
+unfolding distanceSquared
+distance-squared-spec = tie.close (tie.spec (λ c κs. search needs) (λ c κs. search needs)
+    (λ c. rw (← c .before .sub .ensures, ← c .length-squared .ensures)))

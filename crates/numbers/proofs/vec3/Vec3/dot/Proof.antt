@@ -4,9 +4,6 @@ use Rattle.numbers.specs.Vec3.{dot}
 use Rattle.numbers.proofs.vec3.Vec3.dot.Statement.{statement}
 use Rattle.numbers.proofs.vec3.Vec3.dot.Tie as tie
 
-returns : tie.Need-returns
-unfolding dot
-returns c = refl
-
 pub dot-spec : {M : Type 1} → statement M
-dot-spec = tie.close (tie.spec returns)
+unfolding dot
+dot-spec = tie.close (tie.spec (λ c. refl))

@@ -4,9 +4,6 @@ use Rattle.numbers.specs.Vec3.{floatMul}
 use Rattle.numbers.proofs.vec3.Vec3.float_mul.Statement.{statement}
 use Rattle.numbers.proofs.vec3.Vec3.float_mul.Tie as tie
 
-returns : tie.Need-returns
-unfolding floatMul
-returns c = refl
-
 pub float-mul-spec : {M : Type 1} → statement M
-float-mul-spec = tie.close (tie.spec returns)
+unfolding floatMul
+float-mul-spec = tie.close (tie.spec (λ c. refl))

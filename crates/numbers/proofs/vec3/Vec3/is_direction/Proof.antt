@@ -6,9 +6,7 @@ use Rattle.numbers.specs.Vec3.{isDirection}
 use Rattle.numbers.proofs.vec3.Vec3.is_direction.Statement.{statement}
 use Rattle.numbers.proofs.vec3.Vec3.is_direction.Tie as tie
 
-returns : tie.Need-returns
-unfolding isDirection decimal ofBits
-returns c = rw (← c .before .length-squared .ensures, ← c .within .ensures)
-
 pub is-direction-spec : {M : Type 1} → statement M
-is-direction-spec = tie.close (tie.spec (λ c κs. search needs) (λ c κs. search needs) returns)
+unfolding isDirection decimal ofBits
+is-direction-spec = tie.close (tie.spec (λ c κs. search needs) (λ c κs. search needs)
+    (λ c. rw (← c .before .length-squared .ensures, ← c .within .ensures)))

@@ -6,9 +6,7 @@ use Rattle.numbers.specs.Vec3.{isNormalized}
 use Rattle.numbers.proofs.vec3.Vec3.is_normalized.Statement.{statement}
 use Rattle.numbers.proofs.vec3.Vec3.is_normalized.Tie as tie
 
-returns : tie.Need-returns
-unfolding isNormalized epsilon decimal ofBits
-returns c = rw (← c .before .length-squared .ensures, ← c .abs .ensures)
-
 pub is-normalized-spec : {M : Type 1} → statement M
-is-normalized-spec = tie.close (tie.spec (λ c κs. search needs) (λ c κs. search needs) returns)
+unfolding isNormalized epsilon decimal ofBits
+is-normalized-spec = tie.close (tie.spec (λ c κs. search needs) (λ c κs. search needs)
+    (λ c. rw (← c .before .length-squared .ensures, ← c .abs .ensures)))

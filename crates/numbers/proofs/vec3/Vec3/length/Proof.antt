@@ -5,9 +5,7 @@ use Rattle.numbers.specs.Vec3.{length}
 use Rattle.numbers.proofs.vec3.Vec3.length.Statement.{statement}
 use Rattle.numbers.proofs.vec3.Vec3.length.Tie as tie
 
-returns : tie.Need-returns
-unfolding length ofBits
-returns c = rw (← c .before .length-squared .ensures, ← c .sqrt-or-zero .ensures)
-
 pub length-spec : {M : Type 1} → statement M
-length-spec = tie.close (tie.spec (λ c κs. search needs) (λ c κs. search needs) returns)
+unfolding length ofBits
+length-spec = tie.close (tie.spec (λ c κs. search needs) (λ c κs. search needs)
+    (λ c. rw (← c .before .length-squared .ensures, ← c .sqrt-or-zero .ensures)))

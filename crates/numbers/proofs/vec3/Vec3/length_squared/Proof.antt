@@ -4,9 +4,6 @@ use Rattle.numbers.specs.Vec3.{lengthSquared}
 use Rattle.numbers.proofs.vec3.Vec3.length_squared.Statement.{statement}
 use Rattle.numbers.proofs.vec3.Vec3.length_squared.Tie as tie
 
-returns : tie.Need-returns
-unfolding lengthSquared
-returns c = rw (← c .dot .ensures)
-
 pub length-squared-spec : {M : Type 1} → statement M
-length-squared-spec = tie.close (tie.spec (λ c κs. search needs) returns)
+unfolding lengthSquared
+length-squared-spec = tie.close (tie.spec (λ c κs. search needs) (λ c. rw (← c .dot .ensures)))

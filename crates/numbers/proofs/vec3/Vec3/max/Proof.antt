@@ -4,9 +4,7 @@ use Rattle.numbers.specs.Vec3.{max}
 use Rattle.numbers.proofs.vec3.Vec3.max.Statement.{statement}
 use Rattle.numbers.proofs.vec3.Vec3.max.Tie as tie
 
-returns : tie.Need-returns
-unfolding max
-returns c = rw (← c .before .before .max .ensures, ← c .before .max2 .ensures, ← c .max3 .ensures)
-
 pub max-spec : {M : Type 1} → statement M
-max-spec = tie.close (tie.spec (λ c κs. search needs) (λ c κs. search needs) (λ c κs. search needs) returns)
+unfolding max
+max-spec = tie.close (tie.spec (λ c κs. search needs) (λ c κs. search needs) (λ c κs. search needs)
+    (λ c. rw (← c .before .before .max .ensures, ← c .before .max2 .ensures, ← c .max3 .ensures)))

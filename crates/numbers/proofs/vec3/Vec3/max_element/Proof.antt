@@ -4,9 +4,6 @@ use Rattle.numbers.specs.Vec3.{maxElement}
 use Rattle.numbers.proofs.vec3.Vec3.max_element.Statement.{statement}
 use Rattle.numbers.proofs.vec3.Vec3.max_element.Tie as tie
 
-returns : tie.Need-returns
-unfolding maxElement
-returns c = rw (← c .before .max .ensures, ← c .max2 .ensures)
-
 pub max-element-spec : {M : Type 1} → statement M
-max-element-spec = tie.close (tie.spec (λ c κs. search needs) (λ c κs. search needs) returns)
+unfolding maxElement
+max-element-spec = tie.close (tie.spec (λ c κs. search needs) (λ c κs. search needs) (λ c. rw (← c .before .max .ensures, ← c .max2 .ensures)))

@@ -4,9 +4,7 @@ use Rattle.numbers.specs.Vec3.{min}
 use Rattle.numbers.proofs.vec3.Vec3.min.Statement.{statement}
 use Rattle.numbers.proofs.vec3.Vec3.min.Tie as tie
 
-returns : tie.Need-returns
-unfolding min
-returns c = rw (← c .before .before .min .ensures, ← c .before .min2 .ensures, ← c .min3 .ensures)
-
 pub min-spec : {M : Type 1} → statement M
-min-spec = tie.close (tie.spec (λ c κs. search needs) (λ c κs. search needs) (λ c κs. search needs) returns)
+unfolding min
+min-spec = tie.close (tie.spec (λ c κs. search needs) (λ c κs. search needs) (λ c κs. search needs)
+    (λ c. rw (← c .before .before .min .ensures, ← c .before .min2 .ensures, ← c .min3 .ensures)))

@@ -4,9 +4,6 @@ use Rattle.numbers.specs.Vec3.{minElement}
 use Rattle.numbers.proofs.vec3.Vec3.min_element.Statement.{statement}
 use Rattle.numbers.proofs.vec3.Vec3.min_element.Tie as tie
 
-returns : tie.Need-returns
-unfolding minElement
-returns c = rw (← c .before .min .ensures, ← c .min2 .ensures)
-
 pub min-element-spec : {M : Type 1} → statement M
-min-element-spec = tie.close (tie.spec (λ c κs. search needs) (λ c κs. search needs) returns)
+unfolding minElement
+min-element-spec = tie.close (tie.spec (λ c κs. search needs) (λ c κs. search needs) (λ c. rw (← c .before .min .ensures, ← c .min2 .ensures)))

@@ -4,9 +4,6 @@ use Rattle.numbers.specs.Vec3.{negate}
 use Rattle.numbers.proofs.vec3.Vec3.negate.Statement.{statement}
 use Rattle.numbers.proofs.vec3.Vec3.negate.Tie as tie
 
-returns : tie.Need-returns
-unfolding negate
-returns c = refl
-
 pub negate-spec : {M : Type 1} → statement M
-negate-spec = tie.close (tie.spec returns)
+unfolding negate
+negate-spec = tie.close (tie.spec (λ c. refl))

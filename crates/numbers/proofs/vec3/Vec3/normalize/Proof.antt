@@ -4,9 +4,6 @@ use Rattle.numbers.specs.Vec3.{normalize}
 use Rattle.numbers.proofs.vec3.Vec3.normalize.Statement.{statement}
 use Rattle.numbers.proofs.vec3.Vec3.normalize.Tie as tie
 
-returns : tie.Need-returns
-unfolding normalize
-returns c = rw (← c .before .length .ensures, ← c .div-float .ensures)
-
 pub normalize-spec : {M : Type 1} → statement M
-normalize-spec = tie.close (tie.spec (λ c κs. search needs) (λ c κs. search needs) returns)
+unfolding normalize
+normalize-spec = tie.close (tie.spec (λ c κs. search needs) (λ c κs. search needs) (λ c. rw (← c .before .length .ensures, ← c .div-float .ensures)))

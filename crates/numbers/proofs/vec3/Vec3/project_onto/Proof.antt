@@ -4,9 +4,7 @@ use Rattle.numbers.specs.Vec3.{projectOnto}
 use Rattle.numbers.proofs.vec3.Vec3.project_onto.Statement.{statement}
 use Rattle.numbers.proofs.vec3.Vec3.project_onto.Tie as tie
 
-returns : tie.Need-returns
-unfolding projectOnto
-returns c = rw (← c .before .before .before .dot .ensures, ← c .before .before .mul-float .ensures, ← c .before .length-squared .ensures, ← c .div-float .ensures)
-
 pub project-onto-spec : {M : Type 1} → statement M
-project-onto-spec = tie.close (tie.spec (λ c κs. search needs) (λ c κs. search needs) (λ c κs. search needs) (λ c κs. search needs) returns)
+unfolding projectOnto
+project-onto-spec = tie.close (tie.spec (λ c κs. search needs) (λ c κs. search needs) (λ c κs. search needs) (λ c κs. search needs)
+    (λ c. rw (c .div-float .ensures, c .before .length-squared .ensures, c .before .before .mul-float .ensures, c .before .before .before .dot .ensures)))

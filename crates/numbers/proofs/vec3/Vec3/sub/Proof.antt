@@ -4,9 +4,6 @@ use Rattle.numbers.specs.Vec3.{sub}
 use Rattle.numbers.proofs.vec3.Vec3.sub.Statement.{statement}
 use Rattle.numbers.proofs.vec3.Vec3.sub.Tie as tie
 
-returns : tie.Need-returns
-unfolding sub
-returns c = refl
-
 pub sub-spec : {M : Type 1} → statement M
-sub-spec = tie.close (tie.spec returns)
+unfolding sub
+sub-spec = tie.close (tie.spec (λ c. refl))

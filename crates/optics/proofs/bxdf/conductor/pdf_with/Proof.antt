@@ -6,42 +6,13 @@ use borrow.Author.Needs.{needs}
 use Rattle.optics.proofs.bxdf.conductor.pdf_with.Statement.{statement}
 use Rattle.optics.proofs.bxdf.conductor.pdf_with.Tie as tie
 
-returns : tie.Need-returns
-unfolding conductorPdfWith conductorPdfFrom conductorHalf mirroredPdf ofBits
-returns c =
-    rw (
-      ← c .before .before .before .before .before .before .before .same-hemisphere .ensures,
-      c .before .before .before .before .before .before .if1 .taken,
-      ← c .before .before .before .before .before .add .ensures,
-      ← c .before .before .before .before .normalize .ensures,
-      ← c .before .before .before .on-z-side .ensures,
-      ← c .before .before .is-delta .ensures,
-      c .before .if2 .taken,
-      ← c .at-z .ensures,
-    )
-
-returns-2 : tie.Need-returns-2
-unfolding conductorPdfWith conductorPdfFrom conductorHalf mirroredPdf ofBits
-returns-2 c =
-    rw (
-      ← c .before .before .before .before .before .before .before .before .before .same-hemisphere .ensures,
-      c .before .before .before .before .before .before .before .before .if1 .taken,
-      ← c .before .before .before .before .before .before .before .add .ensures,
-      ← c .before .before .before .before .before .before .normalize .ensures,
-      ← c .before .before .before .before .before .on-z-side .ensures,
-      ← c .before .before .before .before .is-delta .ensures,
-      c .before .before .before .if2 .left,
-      ← c .before .before .dot .ensures,
-      ← c .before .sample-normal-pdf-at .ensures,
-      ← c .abs .ensures,
-    )
-
-returns-3 : tie.Need-returns-3
-unfolding conductorPdfWith conductorPdfFrom conductorHalf mirroredPdf ofBits
-returns-3 c = rw (← c .before .same-hemisphere .ensures, c .if1 .left)
-
 pub pdf-with-spec : {M : Type 1} → statement M
-pdf-with-spec =
-    tie.close
-    (tie.spec (λ c κs. search needs) (λ c κs. search needs) (λ c κs. search needs) (λ c κs. search needs) (λ c κs. search needs)
-    (λ c κs. search needs) returns (λ c κs. search needs) (λ c κs. search needs) (λ c κs. search needs) returns-2 returns-3)
+unfolding conductorPdfWith conductorPdfFrom conductorHalf mirroredPdf ofBits
+pdf-with-spec = tie.close (tie.spec (λ c κs. search needs) (λ c κs. search needs) (λ c κs. search needs) (λ c κs. search needs) (λ c κs. search needs)
+    (λ c κs. search needs)
+    (λ c. let p = c .before .before in let q = p .before .before in
+    rw (← q .before .before .before .same-hemisphere .ensures, q .before .before .if1 .taken, ← q .before .add .ensures, ← q .normalize .ensures, ← p .before .on-z-side .ensures, ← p .is-delta .ensures, c .before .if2 .taken, ← c .at-z .ensures))
+    (λ c κs. search needs) (λ c κs. search needs) (λ c κs. search needs)
+    (λ c. let p = c .before .before .before in let q = p .before .before .before in
+    rw (← q .before .before .before .same-hemisphere .ensures, q .before .before .if1 .taken, ← q .before .add .ensures, ← q .normalize .ensures, ← p .before .before .on-z-side .ensures, ← p .before .is-delta .ensures, p .if2 .left, ← c .before .before .dot .ensures, ← c .before .sample-normal-pdf-at .ensures, ← c .abs .ensures))
+    (λ c. rw (← c .before .same-hemisphere .ensures, c .if1 .left)))

@@ -4,9 +4,6 @@ use borrow.Author.Needs.{needs}
 use Rattle.optics.proofs.bxdf.conductor.sample.Statement.{statement}
 use Rattle.optics.proofs.bxdf.conductor.sample.Tie as tie
 
-returns : tie.Need-returns
-unfolding conductorSample
-returns c = rw (← c .before .normal .ensures, ← c .sample-from .ensures)
-
 pub sample-spec : {M : Type 1} → statement M
-sample-spec = tie.close (tie.spec (λ c κs. search needs) (λ c κs. search needs) returns)
+unfolding conductorSample
+sample-spec = tie.close (tie.spec (λ c κs. search needs) (λ c κs. search needs) (λ c. rw (← c .before .normal .ensures, ← c .sample-from .ensures)))

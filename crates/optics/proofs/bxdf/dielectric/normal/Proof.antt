@@ -5,13 +5,7 @@ use borrow.Author.Needs.{needs}
 use Rattle.optics.proofs.bxdf.dielectric.normal.Statement.{statement}
 use Rattle.optics.proofs.bxdf.dielectric.normal.Tie as tie
 
-returns : tie.Need-returns
-unfolding dielectricNormal ofBits
-returns c = rw (← c .before .is-smooth .ensures, c .if1 .taken)
-
-returns-2 : tie.Need-returns-2
-unfolding dielectricNormal ofBits
-returns-2 c = rw (← c .before .before .is-smooth .ensures, c .before .if1 .left, ← c .sample-normal .ensures)
-
 pub normal-spec : {M : Type 1} → statement M
-normal-spec = tie.close (tie.spec (λ c κs. search needs) returns (λ c κs. search needs) returns-2)
+unfolding dielectricNormal ofBits
+normal-spec = tie.close (tie.spec (λ c κs. search needs) (λ c. rw (← c .before .is-smooth .ensures, c .if1 .taken)) (λ c κs. search needs)
+    (λ c. rw (← c .before .before .is-smooth .ensures, c .before .if1 .left, ← c .sample-normal .ensures)))

@@ -5,8 +5,6 @@ use borrow.Author.Needs.{needs}
 use Rattle.optics.proofs.bxdf.dielectric.pdf.Statement.{statement}
 use Rattle.optics.proofs.bxdf.dielectric.pdf.Tie as tie
 
-returns : tie.Need-returns
-returns c = rw (← glass-density _ f0 _ _ _ _ _, ← c .before .before .is-smooth .ensures, ← c .before .lambda-unless .ensures, ← c .pdf-with .ensures)
-
 pub pdf-spec : {M : Type 1} → statement M
-pdf-spec = tie.close (tie.spec (λ c κs. search needs) (λ c κs. search needs) (λ c κs. search needs) returns)
+pdf-spec = tie.close (tie.spec (λ c κs. search needs) (λ c κs. search needs) (λ c κs. search needs)
+    (λ c. rw (← glass-density _ f0 _ _ _ _ _, ← c .before .before .is-smooth .ensures, ← c .before .lambda-unless .ensures, ← c .pdf-with .ensures)))

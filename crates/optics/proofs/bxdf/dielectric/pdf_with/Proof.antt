@@ -4,9 +4,7 @@ use borrow.Author.Needs.{needs}
 use Rattle.optics.proofs.bxdf.dielectric.pdf_with.Statement.{statement}
 use Rattle.optics.proofs.bxdf.dielectric.pdf_with.Tie as tie
 
-returns : tie.Need-returns
-unfolding dielectricPdfWith
-returns c = rw (← c .before .before .eta-ratio .ensures, ← c .before .half .ensures, ← c .pdf-at .ensures)
-
 pub pdf-with-spec : {M : Type 1} → statement M
-pdf-with-spec = tie.close (tie.spec (λ c κs. search needs) (λ c κs. search needs) (λ c κs. search needs) returns)
+unfolding dielectricPdfWith
+pdf-with-spec = tie.close (tie.spec (λ c κs. search needs) (λ c κs. search needs) (λ c κs. search needs)
+    (λ c. rw (← c .before .before .eta-ratio .ensures, ← c .before .half .ensures, ← c .pdf-at .ensures)))

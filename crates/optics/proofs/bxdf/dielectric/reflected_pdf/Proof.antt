@@ -1,5 +1,4 @@
 -- `optics::bxdf::dielectric::reflected_pdf` meets its contract: the calls give what their contracts promise, and the definition is read in the same order.
-use mathlib.Core.Path.{refl}
 use Rattle.optics.specs.Bxdf.{rest}
 use Rattle.optics.specs.Density.{reflectedPdf, mirroredPdf}
 use lib.Ieee.{ofBits}
@@ -7,22 +6,9 @@ use borrow.Author.Needs.{needs}
 use Rattle.optics.proofs.bxdf.dielectric.reflected_pdf.Statement.{statement}
 use Rattle.optics.proofs.bxdf.dielectric.reflected_pdf.Tie as tie
 
-returns : tie.Need-returns
-unfolding reflectedPdf mirroredPdf rest ofBits
-returns c = rw (← c .before .before .is-smooth .ensures, c .before .if1 .taken, ← c .at-z .ensures)
-
-returns-2 : tie.Need-returns-2
-unfolding reflectedPdf mirroredPdf rest ofBits
-returns-2 c =
-    rw (
-      ← c .before .before .before .is-smooth .ensures,
-      c .before .before .if1 .left,
-      ← c .before .before .before .before .pre,
-      ← c .before .sample-normal-pdf-at .ensures,
-      ← c .abs .ensures,
-    )
-
 pub reflected-pdf-spec : {M : Type 1} → statement M
-reflected-pdf-spec =
-    tie.close
-    (tie.spec (λ c κs. search needs) (λ c κs. search needs) returns (λ c κs. search needs) (λ c κs. search needs) returns-2)
+unfolding reflectedPdf mirroredPdf rest ofBits
+reflected-pdf-spec = tie.close (tie.spec (λ c κs. search needs) (λ c κs. search needs)
+    (λ c. rw (← c .before .before .is-smooth .ensures, c .before .if1 .taken, ← c .at-z .ensures)) (λ c κs. search needs) (λ c κs. search needs)
+    (λ c. let p = c .before .before in
+    rw (← p .before .is-smooth .ensures, p .if1 .left, ← p .before .before .pre, ← c .before .sample-normal-pdf-at .ensures, ← c .abs .ensures)))

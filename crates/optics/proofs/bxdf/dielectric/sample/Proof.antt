@@ -4,9 +4,7 @@ use borrow.Author.Needs.{needs}
 use Rattle.optics.proofs.bxdf.dielectric.sample.Statement.{statement}
 use Rattle.optics.proofs.bxdf.dielectric.sample.Tie as tie
 
-returns : tie.Need-returns
-unfolding dielectricSample
-returns c = rw (← c .before .before .normal .ensures, ← c .before .f-at .ensures, ← c .sample-from .ensures)
-
 pub sample-spec : {M : Type 1} → statement M
-sample-spec = tie.close (tie.spec (λ c κs. search needs) (λ c κs. search needs) (λ c κs. search needs) returns)
+unfolding dielectricSample
+sample-spec = tie.close (tie.spec (λ c κs. search needs) (λ c κs. search needs) (λ c κs. search needs)
+    (λ c. rw (← c .before .before .normal .ensures, ← c .before .f-at .ensures, ← c .sample-from .ensures)))

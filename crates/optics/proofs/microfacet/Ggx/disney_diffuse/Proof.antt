@@ -6,9 +6,7 @@ use borrow.Author.Needs.{needs}
 use Rattle.optics.proofs.microfacet.Ggx.disney_diffuse.Statement.{statement}
 use Rattle.optics.proofs.microfacet.Ggx.disney_diffuse.Tie as tie
 
-returns : tie.Need-returns
-unfolding disneyDiffuse fd90 energyFactor powi2 decimal ofBits
-returns c = rw (← c .before .f-schlick .ensures, ← c .f-schlick2 .ensures)
-
 pub disney-diffuse-spec : {M : Type 1} → statement M
-disney-diffuse-spec = tie.close (tie.spec (λ c κs. search needs) (λ c κs. search needs) returns)
+unfolding disneyDiffuse fd90 energyFactor powi2 decimal ofBits
+disney-diffuse-spec = tie.close (tie.spec (λ c κs. search needs) (λ c κs. search needs)
+    (λ c. rw (← c .before .f-schlick .ensures, ← c .f-schlick2 .ensures)))

@@ -5,19 +5,8 @@ use borrow.Author.Needs.{needs}
 use Rattle.optics.proofs.microfacet.Ggx.g.Statement.{statement}
 use Rattle.optics.proofs.microfacet.Ggx.g.Tie as tie
 
-returns : tie.Need-returns
-unfolding g masked ofBits
-returns c =
-    rw (
-      ← c .before .before .before .chi-pass .ensures,
-      c .before .before .if1 .taken,
-      ← c .before .lambda .ensures,
-      ← c .lambda2 .ensures,
-    )
-
-returns-2 : tie.Need-returns-2
-unfolding g masked ofBits
-returns-2 c = rw (← c .before .chi-pass .ensures, c .if1 .left)
-
 pub g-spec : {M : Type 1} → statement M
-g-spec = tie.close (tie.spec (λ c κs. search needs) (λ c κs. search needs) (λ c κs. search needs) returns returns-2)
+unfolding g masked ofBits
+g-spec = tie.close (tie.spec (λ c κs. search needs) (λ c κs. search needs) (λ c κs. search needs)
+    (λ c. rw (← c .before .before .before .chi-pass .ensures, c .before .before .if1 .taken, ← c .before .lambda .ensures, ← c .lambda2 .ensures))
+    (λ c. rw (← c .before .chi-pass .ensures, c .if1 .left)))

@@ -4,12 +4,6 @@ use borrow.Author.Needs.{needs}
 use Rattle.optics.proofs.microfacet.Ggx.lambda_unless.Statement.{statement}
 use Rattle.optics.proofs.microfacet.Ggx.lambda_unless.Tie as tie
 
-returns : tie.Need-returns
-unfolding ofBits
-returns c = rw (c .if1 .taken)
-
-returns-2 : tie.Need-returns-2
-returns-2 c = rw (c .before .if1 .left, ← c .lambda .ensures)
-
 pub lambda-unless-spec : {M : Type 1} → statement M
-lambda-unless-spec = tie.close (tie.spec returns (λ c κs. search needs) returns-2)
+unfolding ofBits
+lambda-unless-spec = tie.close (tie.spec (λ c. rw (c .if1 .taken)) (λ c κs. search needs) (λ c. rw (c .before .if1 .left, ← c .lambda .ensures)))

@@ -4,20 +4,9 @@ use borrow.Author.Needs.{needs}
 use Rattle.optics.proofs.microfacet.Ggx.sample_normal.Statement.{statement}
 use Rattle.optics.proofs.microfacet.Ggx.sample_normal.Tie as tie
 
-returns : tie.Need-returns
-unfolding sampleNormal
-returns c =
-    rw (
-      ← c .before .before .before .before .before .viewed .ensures,
-      ← c .before .before .before .before .sqrt .ensures,
-      ← c .before .before .before .tangent .ensures,
-      ← c .before .before .on-hemisphere .ensures,
-      ← c .before .combined .ensures,
-      ← c .unstretched .ensures,
-    )
-
 pub sample-normal-spec : {M : Type 1} → statement M
-sample-normal-spec =
-    tie.close
-    (tie.spec (λ c κs. search needs) (λ c κs. search needs) (λ c κs. search needs) (λ c κs. search needs) (λ c κs. search needs)
-    (λ c κs. search needs) returns)
+unfolding sampleNormal
+sample-normal-spec = tie.close (tie.spec (λ c κs. search needs) (λ c κs. search needs) (λ c κs. search needs) (λ c κs. search needs)
+    (λ c κs. search needs) (λ c κs. search needs)
+    (λ c. let p = c .before .before in
+    rw (← p .before .before .before .viewed .ensures, ← p .before .before .sqrt .ensures, ← p .before .tangent .ensures, ← p .on-hemisphere .ensures, ← c .before .combined .ensures, ← c .unstretched .ensures)))

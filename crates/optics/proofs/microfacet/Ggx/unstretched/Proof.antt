@@ -6,9 +6,6 @@ use borrow.Author.Needs.{needs}
 use Rattle.optics.proofs.microfacet.Ggx.unstretched.Statement.{statement}
 use Rattle.optics.proofs.microfacet.Ggx.unstretched.Tie as tie
 
-returns : tie.Need-returns
-unfolding unstretched epsilon decimal ofBits
-returns c = rw (← c .before .max .ensures, ← c .normalize .ensures)
-
 pub unstretched-spec : {M : Type 1} → statement M
-unstretched-spec = tie.close (tie.spec (λ c κs. search needs) (λ c κs. search needs) returns)
+unfolding unstretched epsilon decimal ofBits
+unstretched-spec = tie.close (tie.spec (λ c κs. search needs) (λ c κs. search needs) (λ c. rw (← c .before .max .ensures, ← c .normalize .ensures)))

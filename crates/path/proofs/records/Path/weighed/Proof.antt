@@ -4,9 +4,6 @@ use Rattle.path.specs.Path.{weighed}
 use Rattle.path.proofs.records.Path.weighed.Statement.{statement}
 use Rattle.path.proofs.records.Path.weighed.Tie as tie
 
-returns : tie.Need-returns
-unfolding weighed
-returns c = refl
-
 pub weighed-spec : {M : Type 1} → statement M
-weighed-spec = tie.close (tie.spec returns)
+unfolding weighed
+weighed-spec = tie.close (tie.spec (λ c. refl))

@@ -1,0 +1,2 @@
+-- The laws of a float's bit pattern.
+pub mod FloatBits

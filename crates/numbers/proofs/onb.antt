@@ -1,0 +1,2 @@
+-- The laws of the basis around a normal.
+pub mod LocalBasis

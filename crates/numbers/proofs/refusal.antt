@@ -1,0 +1,2 @@
+-- The laws of a chain of checks.
+pub mod Checks
