@@ -1,10 +1,10 @@
 //! Times, here and in the Rust: the least of several passes, each over fresh data.
 use super::harness::*;
 use super::inputs::Rng;
+use super::library::{run_bounces, Lent};
 use super::numbers::{basis_calls, root_calls, BasisCalls, RootCall};
 use super::optics::{of_surface_calls, OfSurface};
-use super::library::run_bounces;
-use super::path::{checked_bounce, plain, plain_many, surface_of, usual_bounce, usual_path, usual_surface, words_in, Bounce, BounceCall, Path, INS, OUTS};
+use super::path::{plain, plain_many, surface_of, usual_bounce, usual_path, usual_surface, words_in, Bounce, Bounced, Path, INS, OUTS};
 use super::surfaces::Surface;
 use super::Function;
 use crate::Vec3;
@@ -104,14 +104,34 @@ fn of_surface(data: &[(Vec3, Vec3, f64)], s: &Surface, f: OfSurface) -> f64 {
     })
 }
 
+type BounceCall = extern "C-unwind" fn(Path, &Surface, Bounce) -> Bounced;
+
+/// A path and a bounce, as each side takes them.
+struct One {
+    here: Lent,
+    path: Path,
+    bounce: Bounce,
+}
+
 /// Bounces, each on a path of its own.
 #[inline(never)]
-fn bounces(data: &[(Path, Bounce)], s: &Surface, f: BounceCall) -> f64 {
+fn bounces(data: &[One], s: &Surface) -> f64 {
     let mut out = vec![0.0; data.len()];
-    let f = black_box(f);
     timed(data.len(), || {
-        for (o, (p, b)) in out.iter_mut().zip(data) {
-            let a = f(*p, s, *b);
+        for (o, one) in out.iter_mut().zip(data) {
+            *o = one.here.bounce(s);
+        }
+        out
+    })
+}
+
+#[inline(never)]
+fn bounces_in_rust(data: &[One], s: &Surface) -> f64 {
+    let mut out = vec![0.0; data.len()];
+    let f = black_box(plain as BounceCall);
+    timed(data.len(), || {
+        for (o, one) in out.iter_mut().zip(data) {
+            let a = f(one.path, s, one.bounce);
             *o = a.path.power.0[0] + a.wi.x + a.density.value;
         }
         out
@@ -131,15 +151,26 @@ fn many(data: &[[f64; INS]], s: &Surface, f: fn(&Surface, &[f64], &mut [f64])) -
 
 /// ns for each bounce of lists of `n`, each on one path and on four surfaces by turns.
 #[inline(never)]
-fn lists(data: &[(Path, Bounce)], s: &[Surface], n: usize, f: BounceCall) -> f64 {
-    let f = black_box(f);
+fn lists(data: &[One], s: &[Surface], n: usize) -> f64 {
+    timed(data.len(), || {
+        let mut sum = 0.0;
+        for (i, list) in data.chunks(n).enumerate() {
+            sum += Lent::bounces(list.iter().map(|one| &one.here), s, i * n);
+        }
+        sum
+    })
+}
+
+#[inline(never)]
+fn lists_in_rust(data: &[One], s: &[Surface], n: usize) -> f64 {
+    let f = black_box(plain as BounceCall);
     timed(data.len(), || {
         let mut sum = 0.0;
         let mut i = 0;
         for list in data.chunks(n) {
-            let mut p = list[0].0;
-            for (_, b) in list {
-                p = f(p, &s[i % s.len()], *b).path;
+            let mut p = list[0].path;
+            for one in list {
+                p = f(p, &s[i % s.len()], one.bounce).path;
                 i += 1;
             }
             sum += p.power.0[0];
@@ -162,7 +193,10 @@ fn bench_bounces(rng: &mut Rng) {
         line(name, a, b);
     }
     println!("a whole checked bounce");
-    let one = |rng: &mut Rng| (usual_path(rng), usual_bounce(rng));
+    let one = |rng: &mut Rng| {
+        let (path, bounce) = (usual_path(rng), usual_bounce(rng));
+        One { here: Lent::new(&path, &bounce), path, bounce }
+    };
     for (name, glass, rough, varying) in [
         ("rough metal", false, true, true),
         ("delta metal", false, false, true),
@@ -172,7 +206,7 @@ fn bench_bounces(rng: &mut Rng) {
         ("delta glass, varying eta", true, false, true),
     ] {
         let s = usual_surface(rng, glass, rough, varying);
-        let (a, b) = least(rng, one, |d| bounces(d, &s, checked_bounce), |d| bounces(d, &s, plain));
+        let (a, b) = least(rng, one, |d| bounces(d, &s), |d| bounces_in_rust(d, &s));
         line(name, a, b);
     }
     println!("each of {SIZE} bounces in one call, the surface checked once on both sides");
@@ -193,7 +227,7 @@ fn bench_bounces(rng: &mut Rng) {
     println!("each bounce of a list on one path: metal and glass, rough and delta by turns");
     let s = [(false, true), (true, true), (false, false), (true, false)].map(|(glass, rough)| usual_surface(rng, glass, rough, false));
     for n in [1, 10, 100, 1000] {
-        let (a, b) = least(rng, one, |d| lists(d, &s, n, checked_bounce), |d| lists(d, &s, n, plain));
+        let (a, b) = least(rng, one, |d| lists(d, &s, n), |d| lists_in_rust(d, &s, n));
         line(&format!("  {n} bounces"), a, b);
     }
 }

@@ -20,7 +20,7 @@ const RAYS: &str = "target/bin/rays";
 
 /// A job's bounces, and how often both programs run on it.
 const SIZES: [(usize, usize); 3] = [(1_000, 101), (100_000, 15), (10_000_000, 3)];
-/// The surfaces of the example that a job's light meets: barrel, needle and liquid.
+/// The surfaces of the example that a job's light meets: rim, needle and inner wall.
 const MET: usize = 3;
 /// The most bounces of a path.
 const LONGEST: usize = 10;
@@ -283,7 +283,7 @@ fn bench_memory(seed: u64) -> bool {
             same &= outputs[0].iter().zip(&outputs[1]).all(|(x, y)| bits(*x) == bits(*y));
         }
     }
-    let names = ["barrel, rough glass, varying eta", "needle, rough metal", "liquid, delta glass, constant eta"];
+    let names = ["rim, rough glass, varying eta", "needle, rough metal", "inner wall, delta glass, constant eta"];
     let line = |name: &str, [a, b]: [f64; 2]| println!("  {name:<34} {:>12.0} {:>12.0} {:>6.2}", 1e9 / a, 1e9 / b, a / b);
     for (name, times) in names.iter().zip(least) {
         line(name, times);

@@ -1,5 +1,6 @@
 //! A function of ours beside the Rust's: words in, words out, compared in bits.
 use super::inputs::{Inputs, Rng, Slot};
+pub use super::rulvimba::Answer;
 use crate::{Vec2, Vec3};
 use std::cell::Cell;
 pub use std::hint::black_box;
@@ -14,6 +15,11 @@ pub trait Words: Copy {
     const SHAPE: &'static [Slot];
     fn get(w: &[f64]) -> Self;
     fn put(self, out: &mut [u64]);
+}
+
+/// The value of the first words.
+pub fn get<T: Words>(w: &[f64]) -> T {
+    T::get(w)
 }
 
 pub fn bits(x: f64) -> u64 {
@@ -97,6 +103,22 @@ impl Words for Vec3 {
     }
     fn put(self, out: &mut [u64]) {
         out.copy_from_slice(&[bits(self.x), bits(self.y), bits(self.z)]);
+    }
+}
+
+impl<T: Words> Words for Answer<T> {
+    const SHAPE: &'static [Slot] = match T::SHAPE.len() {
+        1 => &[Slot::Float; 2],
+        3 => &[Slot::Float; 4],
+        4 => &[Slot::Float; 5],
+        _ => &[Slot::Float; 10],
+    };
+    fn get(_: &[f64]) -> Self {
+        unreachable!()
+    }
+    fn put(self, out: &mut [u64]) {
+        out[0] = self.number;
+        self.value.put(&mut out[1..]);
     }
 }
 

@@ -3,6 +3,7 @@
 use super::harness::bits;
 use super::optics::{density, make_surface, Color, Fields};
 use super::path::{plain, rust, rust_start, Bounce, Bounced, Lumo, Path, LOST, REFLECTED, REFUSED};
+use super::surfaces::Surface;
 use crate::{Vec2, Vec3};
 use std::io::{self, BufRead, BufReader, BufWriter, Read, Write};
 
@@ -19,6 +20,10 @@ const PATHS: usize = 1024;
 const LINE_MAX: usize = 4096;
 /// The most entries of a spectrum that a line can have.
 const ENTRIES: usize = 256;
+
+/// What is wrong with a number.
+const NUMBER: &str =
+    "a number is the 16 hexadecimal digits of its bits; a decimal is turned into them by rays-csv to-job";
 
 // ---- the words of a line
 
@@ -135,7 +140,7 @@ impl<'a> Line<'a> {
     fn number(&mut self) -> Reading<f64> {
         match hex(self.word()?) {
             Some(bits) => Ok(f64::from_bits(bits)),
-            None => self.wrong("a number is 16 hexadecimal digits"),
+            None => self.wrong(NUMBER),
         }
     }
 
@@ -184,11 +189,35 @@ fn labelled(out: &mut impl Write, label: &[u8], values: &[f64]) -> io::Result<()
     values.iter().try_for_each(|x| number(out, *x))
 }
 
-fn refused(out: &mut impl Write, number: u64) -> io::Result<()> {
-    writeln!(out, " refused {number}")
+/// What a line was answered by, of which there is a count at the figures' end.
+pub enum Outcome {
+    Nothing,
+    Answer,
+    Refusal,
+    Error,
 }
 
-fn figures(out: &mut impl Write, a: &Bounced) -> io::Result<()> {
+type Written = io::Result<Outcome>;
+
+fn refused(out: &mut impl Write, number: u64) -> Written {
+    writeln!(out, " refused {number}")?;
+    Ok(Outcome::Refusal)
+}
+
+fn answered(out: &mut impl Write, text: &[u8]) -> Written {
+    out.write_all(text)?;
+    Ok(Outcome::Answer)
+}
+
+/// What a density at the leading wavelength is, as `rays` marks it: light that is scattered into one
+/// direction has a probability.
+fn measure(of: &Surface, leading: f64) -> &'static [u8] {
+    let facets = of.distribution();
+    let one_direction = facets.is_delta() || of.glass && facets.eta_at(leading) == 1.0;
+    if one_direction { b" probability" } else { b" per-sr" }
+}
+
+fn figures(out: &mut impl Write, a: &Bounced, of: &Surface) -> Written {
     match a.case {
         REFUSED => return refused(out, a.number),
         LOST => out.write_all(b" lost")?,
@@ -197,6 +226,7 @@ fn figures(out: &mut impl Write, a: &Bounced) -> io::Result<()> {
             labelled(out, b" wi", &[a.wi.x, a.wi.y, a.wi.z])?;
             if a.density.finite {
                 labelled(out, b" density", &[a.density.value])?;
+                out.write_all(measure(of, a.path.lambda.0[0]))?;
             } else {
                 out.write_all(b" density not finite")?;
             }
@@ -209,7 +239,7 @@ fn figures(out: &mut impl Write, a: &Bounced) -> io::Result<()> {
     }
     labelled(out, b" lambda", &a.path.lambda.0)?;
     labelled(out, b" power", &a.path.power.0)?;
-    out.write_all(b"\n")
+    answered(out, b"\n")
 }
 
 // ---- commands
@@ -226,7 +256,7 @@ impl Held {
         Self { answer, surfaces: (0..SURFACES).map(|_| None).collect(), paths: vec![None; PATHS] }
     }
 
-    fn surface(&mut self, line: &mut Line, out: &mut impl Write) -> Reading<io::Result<()>> {
+    fn surface(&mut self, line: &mut Line, out: &mut impl Write) -> Reading<Written> {
         let i = line.surface()?;
         let glass = line.is_glass()?;
         let roughness = line.number()?;
@@ -235,14 +265,14 @@ impl Held {
         line.keyword(b"k", "the word k is missing")?;
         let k = line.entries()?;
         line.end()?;
-        let made = make_surface(&Fields { glass, a: Vec2::splat(roughness), eta: &eta, k: &k });
+        let made = make_surface(&Fields { kind: glass as u64, a: Vec2::splat(roughness), eta: &eta, k: &k });
         if made.number == 0 {
             self.surfaces[i] = Some(Lumo::new(glass, made.value, &eta, &k));
         }
         Ok(write!(out, " surface {i}").and_then(|_| ok_or_refused(out, made.number)))
     }
 
-    fn start(&mut self, line: &mut Line, out: &mut impl Write) -> Reading<io::Result<()>> {
+    fn start(&mut self, line: &mut Line, out: &mut impl Write) -> Reading<Written> {
         let i = line.path()?;
         let lambda = Color(line.numbers()?);
         line.end()?;
@@ -253,7 +283,7 @@ impl Held {
         Ok(write!(out, " start {i}").and_then(|_| ok_or_refused(out, if started.is_some() { 0 } else { 4 })))
     }
 
-    fn bounce(&mut self, line: &mut Line, out: &mut impl Write) -> Reading<io::Result<()>> {
+    fn bounce(&mut self, line: &mut Line, out: &mut impl Write) -> Reading<Written> {
         let (i, which) = (line.path()?, line.surface()?);
         let backface = line.flag()?;
         let (wo, normal) = (line.vec3()?, line.vec3()?);
@@ -264,10 +294,10 @@ impl Held {
         let Some(of) = &self.surfaces[which] else { return Err(Fault { word: 3, what: "the surface is not made" }) };
         let a = (self.answer)(path, of, &b);
         *path = a.path;
-        Ok(write!(out, " bounce {i}").and_then(|_| figures(out, &a)))
+        Ok(write!(out, " bounce {i}").and_then(|_| figures(out, &a, &of.surface)))
     }
 
-    fn density(&mut self, line: &mut Line, out: &mut impl Write) -> Reading<io::Result<()>> {
+    fn density(&mut self, line: &mut Line, out: &mut impl Write) -> Reading<Written> {
         let i = line.surface()?;
         let reflection = line.flag()?;
         let (wo, wi) = (line.vec3()?, line.vec3()?);
@@ -276,15 +306,17 @@ impl Held {
         let Some(of) = &self.surfaces[i] else { return Err(Fault { word: 2, what: "the surface is not made" }) };
         let a = density(of.surface.rust.as_ref().unwrap(), wo, wi, reflection, lambda);
         Ok(match a.number {
-            0 => labelled(out, format!(" density {i}").as_bytes(), &[a.value]).and_then(|_| out.write_all(b"\n")),
+            0 => labelled(out, format!(" density {i}").as_bytes(), &[a.value])
+                .and_then(|_| out.write_all(measure(&of.surface, lambda)))
+                .and_then(|_| answered(out, b"\n")),
             n => write!(out, " density {i}").and_then(|_| refused(out, n)),
         })
     }
 
     /// Answers a line, without its line feed.
-    pub fn answer(&mut self, text: &[u8], at: usize, out: &mut impl Write) -> io::Result<()> {
+    pub fn answer(&mut self, text: &[u8], at: usize, out: &mut impl Write) -> Written {
         let mut line = Line { rest: text, words: 0 };
-        let Some(command) = line.next() else { return Ok(()) };
+        let Some(command) = line.next() else { return Ok(Outcome::Nothing) };
         write!(out, "{at}")?;
         let answered = match command {
             b"bounce" => self.bounce(&mut line, out),
@@ -293,12 +325,15 @@ impl Held {
             b"surface" => self.surface(&mut line, out),
             _ => line.wrong("unknown command"),
         };
-        answered.unwrap_or_else(|fault| writeln!(out, " error {}: {}", fault.word, fault.what))
+        answered.unwrap_or_else(|fault| {
+            writeln!(out, " error word {}: {}", fault.word, fault.what)?;
+            Ok(Outcome::Error)
+        })
     }
 }
 
-fn ok_or_refused(out: &mut impl Write, number: u64) -> io::Result<()> {
-    if number == 0 { out.write_all(b" ok\n") } else { refused(out, number) }
+fn ok_or_refused(out: &mut impl Write, number: u64) -> Written {
+    if number == 0 { answered(out, b" ok\n") } else { refused(out, number) }
 }
 
 /// Reads a job to its end and writes its figures, what is read before more is waited for.
@@ -307,6 +342,7 @@ pub fn run(job: impl Read, figures: impl Write, answer: Answer) -> io::Result<()
     let mut out = BufWriter::with_capacity(1 << 16, figures);
     let mut held = Held::new(answer);
     let mut text = vec![];
+    let (mut answers, mut refusals, mut errors) = (0, 0, 0);
     for at in 1.. {
         if !job.buffer().contains(&b'\n') {
             out.flush()?;
@@ -318,13 +354,21 @@ pub fn run(job: impl Read, figures: impl Write, answer: Answer) -> io::Result<()
         if text.last() == Some(&b'\n') {
             text.pop();
         }
-        if text.len() > LINE_MAX {
-            writeln!(out, "{at} error 0: a line is at most {LINE_MAX} bytes")?;
+        let outcome = if text.len() > LINE_MAX {
+            writeln!(out, "{at} error line: a line is at most {LINE_MAX} bytes")?;
             job.skip_until(b'\n')?;
+            Outcome::Error
         } else {
-            held.answer(&text, at, &mut out)?;
+            held.answer(&text, at, &mut out)?
+        };
+        match outcome {
+            Outcome::Nothing => {}
+            Outcome::Answer => answers += 1,
+            Outcome::Refusal => refusals += 1,
+            Outcome::Error => errors += 1,
         }
     }
+    writeln!(out, "end {answers} answers {refusals} refusals {errors} errors")?;
     out.flush()
 }
 

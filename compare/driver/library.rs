@@ -2,19 +2,58 @@
 //! the declarations that the example in Rust has.
 //!
 //! Bounces are the lists of path.rs, one by one on a path in memory (`rulvimba_bounce`) and then once more by
-//! surface, many to a call (`rulvimba_bounces`). The other calls get the inputs and the Rust's answers of the
-//! checked calls in optics.rs and numbers.rs, which they are under other names.
+//! surface, many to a call (`rulvimba_bounces`); and once more through path's thin form (`path_bounce_on`), which
+//! takes the same records. The other calls stand in the tables of numbers.rs and optics.rs.
 use super::harness::*;
-use super::inputs::Rng;
-use super::optics::{fields, Color, Fields, SURFACE};
+use super::inputs::{Rng, Slot};
+use super::optics::{other_kind, Color};
 use super::path::{report, rust_start, start_input, walk, words_in, Bounce, Bounced, Density, Lumo, Path, Shares, Subject, INS, OUTS};
-use super::spectra::MOST;
+use super::rulvimba::{self, BounceArgs, BounceResult, DirectionResult, Spectra, BOUNCE_IN, BOUNCE_OUT};
 use super::surfaces::Surface;
 use crate::{Vec2, Vec3};
 
-#[path = "../../examples/rust/rulvimba.rs"]
-mod rulvimba;
-use rulvimba::{Answer, BounceArgs, BounceResult, DirectionResult, Spectra, BOUNCE_IN, BOUNCE_OUT, GLASS, METAL};
+// ---- the library's records as words
+
+impl Words for rulvimba::Vec3 {
+    const SHAPE: &'static [Slot] = Vec3::SHAPE;
+    fn get(w: &[f64]) -> Self {
+        Self { x: w[0], y: w[1], z: w[2] }
+    }
+    fn put(self, out: &mut [u64]) {
+        out.copy_from_slice(&three(self).map(bits));
+    }
+}
+
+impl Words for rulvimba::Color {
+    const SHAPE: &'static [Slot] = Color::SHAPE;
+    fn get(w: &[f64]) -> Self {
+        Self { s0: w[0], s1: w[1], s2: w[2], s3: w[3] }
+    }
+    fn put(self, out: &mut [u64]) {
+        out.copy_from_slice(&four(self).map(bits));
+    }
+}
+
+impl Words for rulvimba::Surface {
+    const SHAPE: &'static [Slot] = &[Slot::Float; 3];
+    fn get(w: &[f64]) -> Self {
+        surface(w[0] as u64, Vec2::new(w[1], w[2]))
+    }
+    fn put(self, out: &mut [u64]) {
+        out.copy_from_slice(&[self.kind, bits(self.roughness.x), bits(self.roughness.y)]);
+    }
+}
+
+impl Words for DirectionResult {
+    const SHAPE: &'static [Slot] = &[Slot::Float; 5];
+    fn get(_: &[f64]) -> Self {
+        unreachable!()
+    }
+    fn put(self, out: &mut [u64]) {
+        out[..2].copy_from_slice(&[self.number, self.outcome]);
+        self.direction.put(&mut out[2..5]);
+    }
+}
 
 // ---- the driver's records as the library's, and back
 
@@ -64,17 +103,12 @@ fn arguments(b: &Bounce) -> BounceArgs {
     }
 }
 
-fn surface(kind: u64, a: Vec2) -> rulvimba::Surface {
+pub fn surface(kind: u64, a: Vec2) -> rulvimba::Surface {
     rulvimba::Surface { kind, roughness: c2(a) }
 }
 
 fn spectra(s: &Surface) -> Spectra<'_> {
     Spectra { eta: &s.eta, k: &s.k }
-}
-
-/// A kind that is neither metal nor glass.
-fn other_kind(rng: &mut Rng) -> u64 {
-    [2, 3, 1 << 32, u64::MAX, 2 + (rng.next() >> 1)][rng.below(5)]
 }
 
 // ---- a bounce on a path in memory
@@ -98,6 +132,39 @@ fn bounced(r: &BounceResult, p: &rulvimba::Path) -> Bounced {
         density: Density { finite: r.density.finite == 1, value: r.density.value },
         shares: Shares { there: r.shares.given == 1, reflected: r.shares.reflected, passed: r.shares.passed },
         path: Path { lambda: Color(four(p.lambda)), power: Color(four(p.power)) },
+    }
+}
+
+type OnPath = fn(&mut rulvimba::Path, rulvimba::Surface, Spectra, BounceArgs) -> BounceResult;
+
+/// One bounce on a path in memory. `aside` counts how often memory that must be kept was not as it was: the words
+/// about the path, or the path after a refusal.
+fn on_path(name: &str, call: OnPath, aside: &mut usize, kind: u64, s: &Surface, p: &Path, b: &Bounce) -> (Bounced, [u64; OUTS]) {
+    let mut path = Guarded::new(c8(p));
+    let r = call(&mut path.held, surface(kind, s.a), spectra(s), arguments(b));
+    if !path.is_kept(&c8(p), r.number != 0) {
+        *aside += 1;
+        if *aside <= 3 {
+            println!("  {name}, number {}: memory that must be kept is not as it was", r.number);
+            println!("    in  {}", hex_floats(&words_in(p, b)));
+        }
+    }
+    (bounced(&r, &path.held), words(&r, &path.held))
+}
+
+extern "C" {
+    fn path_bounce_on(path: *mut rulvimba::Path, surface: rulvimba::Surface, eta: *const f64, n: usize, k: *const f64, m: usize, b: BounceArgs) -> BounceResult;
+}
+
+/// path's thin form. How often memory was not as it must be.
+struct Thin(usize);
+
+impl Subject for Thin {
+    const NAME: &'static str = "path_bounce_on";
+
+    fn bounce(&mut self, p: &Path, _: usize, of: &Lumo, b: &Bounce, _: Option<&Bounced>) -> (Bounced, [u64; OUTS]) {
+        let call: OnPath = |p, s, of, b| unsafe { path_bounce_on(p, s, of.eta.as_ptr(), of.eta.len(), of.k.as_ptr(), of.k.len(), b) };
+        on_path(Self::NAME, call, &mut self.0, of.surface.glass as u64, &of.surface, p, b)
     }
 }
 
@@ -224,18 +291,8 @@ impl Library {
         Self { rng: Rng(seed ^ 0x11b), waiting: vec![], other_kinds: 0, aside: 0, many: 0, calls: 0, many_differences: 0 }
     }
 
-    /// One bounce on a path in memory.
     fn one(&mut self, kind: u64, s: &Surface, p: &Path, b: &Bounce) -> (Bounced, [u64; OUTS]) {
-        let mut path = Guarded::new(c8(p));
-        let r = rulvimba::bounce(&mut path.held, surface(kind, s.a), spectra(s), arguments(b));
-        if !path.is_kept(&c8(p), r.number != 0) {
-            self.aside += 1;
-            if self.aside <= 3 {
-                println!("  rulvimba_bounce, number {}: memory that must be kept is not as it was", r.number);
-                println!("    in  {}", hex_floats(&words_in(p, b)));
-            }
-        }
-        (bounced(&r, &path.held), words(&r, &path.held))
+        on_path(Self::NAME, rulvimba::bounce, &mut self.aside, kind, s, p, b)
     }
 
     fn one_of_other_kind(&mut self, of: &Lumo, p: &Path, b: &Bounce) {
@@ -305,7 +362,16 @@ impl Subject for Library {
     }
 }
 
-fn compare_bounces(seed: u64, count: usize) -> (usize, usize) {
+pub fn compare_thin(seed: u64, count: usize) -> usize {
+    let mut thin = Thin(0);
+    let c = walk(seed, count, &mut thin);
+    c.print(Thin::NAME);
+    println!("  differences in memory {}", thin.0);
+    c.differences + thin.0
+}
+
+/// How many bounces were run, and the differences.
+pub fn compare_bounces(seed: u64, count: usize) -> (usize, usize) {
     let mut library = Library::new(seed);
     let c = walk(seed, count, &mut library);
     c.print(Library::NAME);
@@ -316,7 +382,7 @@ fn compare_bounces(seed: u64, count: usize) -> (usize, usize) {
 
 // ---- starts
 
-fn compare_starts(seed: u64, count: usize) -> usize {
+pub fn compare_starts(seed: u64, count: usize) -> usize {
     let rng = &mut Rng(seed ^ 0x57a8);
     let (mut differences, mut refused) = (0, 0);
     for i in 0..count {
@@ -340,140 +406,7 @@ fn compare_starts(seed: u64, count: usize) -> usize {
     differences
 }
 
-// ---- the other calls
-
-/// The kind of an input's surface: now and then it is neither metal nor glass.
-fn kind(w: &[f64]) -> u64 {
-    let rng = &mut Rng(w.iter().fold(0, |h, x| h.rotate_left(7) ^ x.to_bits()));
-    if rng.below(32) == 0 { other_kind(rng) } else { fields(w).glass as u64 }
-}
-
-fn lent<'a>(f: &Fields<'a>) -> Spectra<'a> {
-    Spectra { eta: f.eta, k: f.k }
-}
-
-fn v3(w: &[f64]) -> rulvimba::Vec3 {
-    rulvimba::Vec3 { x: w[0], y: w[1], z: w[2] }
-}
-
-fn put(number: u64, values: &[f64], out: &mut [u64]) {
-    out[0] = number;
-    for (o, x) in out[1..].iter_mut().zip(values) {
-        *o = bits(*x);
-    }
-}
-
-fn put_float(a: Answer<f64>, out: &mut [u64]) {
-    put(a.number, &[a.value], out)
-}
-
-fn put_direction(r: DirectionResult, out: &mut [u64]) {
-    put(r.number, &[0.0, r.direction.x, r.direction.y, r.direction.z], out);
-    out[1] = r.outcome;
-}
-
-/// The function of a table, for its inputs and the Rust's answer.
-fn named(name: &str) -> Function {
-    let mut all = super::families();
-    let at = all.iter().position(|f| f.name == name).unwrap();
-    all.swap_remove(at)
-}
-
-/// How the library is called on a surface, its spectra and the words behind them.
-type OnSurface = fn(rulvimba::Surface, Spectra, &[f64], &mut [u64]);
-
-/// A call of the library beside the checked call that it is. A kind that is neither is refused as 1.
-fn on_surface(name: &'static str, checked: &str, here: OnSurface) -> Function {
-    let f = named(checked);
-    let rust = f.rust;
-    Function {
-        name,
-        here: Box::new(move |w, out| {
-            let f = fields(w);
-            here(surface(kind(w), f.a), lent(&f), &w[SURFACE..], out)
-        }),
-        rust: Box::new(move |w, out| match kind(w) {
-            METAL | GLASS => rust(w, out),
-            _ => {
-                out.fill(0);
-                out[0] = 1;
-            }
-        }),
-        ..f
-    }
-}
-
-/// The mirror and the bend. Where a direction, none or total are given the library counts them from 1.
-fn without_surface(name: &'static str, checked: &str, here: fn(&[f64]) -> DirectionResult) -> Function {
-    let f = named(checked);
-    let rust = f.rust;
-    Function {
-        name,
-        here: Box::new(move |w, out| put_direction(here(&w[SURFACE..]), out)),
-        rust: Box::new(move |w, out| {
-            rust(w, out);
-            out[1] += (out[0] == 0) as u64;
-        }),
-        ..f
-    }
-}
-
-/// The check of a surface alone, on surfaces as the other calls get them.
-fn check_surface() -> Function {
-    let f = on_surface("rulvimba_check_surface", "optics_checked_is_delta", |s, of, _, out| out[0] = rulvimba::check_surface(s, of));
-    let rust = f.rust;
-    Function {
-        outs: 1,
-        rust: Box::new(move |w, out| {
-            let mut both = [0; 2];
-            rust(w, &mut both);
-            out[0] = both[0];
-        }),
-        ..f
-    }
-}
-
-fn lookup() -> Function {
-    let here = |w: &[f64], out: &mut [u64]| put_float(rulvimba::lookup(&w[1..1 + w[0] as usize], w[MOST + 1]), out);
-    Function { name: "rulvimba_lookup", here: Box::new(here), ..named("numbers_checked_lookup") }
-}
-
-fn other_calls() -> Vec<Function> {
-    let make: OnSurface = |s, of, _, out| {
-        let m = rulvimba::make_surface(s.kind, s.roughness.x, of);
-        put(m.number, &[0.0, m.value.roughness.x, m.value.roughness.y], out);
-        out[1] = m.value.kind;
-    };
-    let fresnel: OnSurface = |s, of, w, out| {
-        let f = rulvimba::fresnel(s, of, v3(w), v3(&w[3..]), c4(Color::get(&w[6..])));
-        put(f.number, &four(f.value), out)
-    };
-    let sample: OnSurface = |s, of, w, out| {
-        let n = rulvimba::sample_normal(s, of, v3(w), w[3], w[4], w[5]);
-        put(n.number, &three(n.value), out)
-    };
-    vec![
-        on_surface("rulvimba_make_surface", "optics_checked_make_surface", make),
-        check_surface(),
-        lookup(),
-        on_surface("rulvimba_lambda", "optics_checked_lambda", |s, of, w, out| put_float(rulvimba::lambda(s, of, v3(w)), out)),
-        on_surface("rulvimba_g1", "optics_checked_g1", |s, of, w, out| put_float(rulvimba::g1(s, of, v3(w), v3(&w[3..])), out)),
-        on_surface("rulvimba_g", "optics_checked_g", |s, of, w, out| {
-            put_float(rulvimba::g(s, of, v3(w), v3(&w[3..]), v3(&w[6..])), out)
-        }),
-        on_surface("rulvimba_d", "optics_checked_d", |s, of, w, out| put_float(rulvimba::d(s, of, v3(w)), out)),
-        on_surface("rulvimba_fresnel_at", "optics_checked_f_at", |s, of, w, out| {
-            put_float(rulvimba::fresnel_at(s, of, v3(w), v3(&w[3..]), w[6]), out)
-        }),
-        on_surface("rulvimba_fresnel", "optics_checked_f", fresnel),
-        on_surface("rulvimba_sample_normal", "optics_checked_sample_normal", sample),
-        without_surface("rulvimba_reflect", "optics_checked_reflect", |w| rulvimba::reflect(v3(w), v3(&w[3..]))),
-        without_surface("rulvimba_refract", "optics_checked_refract", |w| rulvimba::refract(w[0], v3(&w[1..]), v3(&w[4..]))),
-        on_surface("rulvimba_density", "optics_checked_pdf", |s, of, w, out| {
-            put_float(rulvimba::density(s, of, v3(w), v3(&w[3..]), w[6] != 0.0, w[7]), out)
-        }),
-    ]
-}
+// ---- all of it
 
 /// `bounces` bounces through both calls, and a tenth as many inputs for each of the others; answers the number
 /// of differences.
@@ -481,7 +414,7 @@ pub fn compare(seed: u64, bounces: usize) -> usize {
     let each = bounces / 10;
     let mut others = each;
     let mut differences = 0;
-    for f in other_calls() {
+    for f in super::families().iter().filter(|f| f.name.starts_with("rulvimba_")) {
         differences += f.compare(seed, each);
         others += each;
     }
@@ -490,4 +423,37 @@ pub fn compare(seed: u64, bounces: usize) -> usize {
     differences += of_bounces;
     println!("compare: librulvimba: {run} bounces, {others} other calls, {differences} differences, seed {seed}");
     differences
+}
+
+// ---- for the benchmark
+
+/// A path and a bounce as the C library takes them, so that the benchmark lays nothing out while it times.
+#[derive(Clone, Copy)]
+pub struct Lent {
+    path: rulvimba::Path,
+    args: BounceArgs,
+}
+
+impl Lent {
+    pub fn new(p: &Path, b: &Bounce) -> Self {
+        Self { path: c8(p), args: arguments(b) }
+    }
+
+    /// A checked bounce on a path of its own: the sum of what it changes.
+    pub fn bounce(&self, s: &Surface) -> f64 {
+        let mut path = self.path;
+        let r = rulvimba::bounce(&mut path, surface(s.glass as u64, s.a), spectra(s), self.args);
+        path.power.s0 + r.wi.x + r.density.value
+    }
+
+    /// The bounces of a list, on surfaces by turns from the `i`th on, each on the path as the last left it: its leading power.
+    pub fn bounces<'a>(list: impl Iterator<Item = &'a Self>, s: &[Surface], i: usize) -> f64 {
+        let mut list = list.peekable();
+        let mut path = list.peek().expect("a list of bounces").path;
+        for (j, one) in list.enumerate() {
+            let s = &s[(i + j) % s.len()];
+            rulvimba::bounce(&mut path, surface(s.glass as u64, s.a), spectra(s), one.args);
+        }
+        path.power.s0
+    }
 }

@@ -15,6 +15,8 @@ mod numbers;
 mod optics;
 mod path;
 mod root;
+#[path = "../../examples/rust/rulvimba.rs"]
+mod rulvimba;
 mod spectra;
 mod surfaces;
 
@@ -32,7 +34,9 @@ fn compare(seed: u64, count: usize) -> usize {
     for f in families() {
         differences += f.compare(seed, count);
     }
-    differences += path::compare(seed, count);
+    differences += library::compare_starts(seed, count);
+    differences += library::compare_bounces(seed, count * 5).1;
+    differences += library::compare_thin(seed, count * 5);
     differences + root::compare(seed, count.max(1_000_000))
 }
 
@@ -45,9 +49,6 @@ fn sample(seed: u64, folder: &str) {
         println!("compare: {} records in {file}", records.lines().count());
     }
 }
-
-/// How many bounces the gate has the static library run.
-const GATE_BOUNCES: usize = 200_000;
 
 pub fn main() {
     harness::set_hook();
@@ -70,7 +71,7 @@ pub fn main() {
     let differences = if of_library {
         library::compare(seed, count.unwrap_or(10_000_000))
     } else if gate {
-        compare(seed, 50_000) + library::compare(seed, GATE_BOUNCES) + job::compare_example()
+        compare(seed, 50_000) + job::compare_example()
     } else {
         compare(seed, count.unwrap_or(1_000_000))
     };

@@ -1,7 +1,9 @@
 //! The crate `numbers` beside lumo's floats, vectors, complex numbers, bases and angles.
 use super::harness::*;
 use super::inputs::{Rng, Slot};
+use super::rulvimba;
 use super::spectra::{self, MOST, SAMPLES};
+use super::surfaces::is_direction;
 use crate::functions;
 use crate::math::{complex::Complex, spherical_utils};
 use crate::stand_in::{half_angle, Powi};
@@ -80,42 +82,13 @@ impl Words for Basis {
     }
 }
 
-/// Document 01's limit on a direction.
-fn is_direction(w: Vec3) -> bool {
-    let square = w.x * w.x + w.y * w.y + w.z * w.z;
-    0.999999 <= square && square <= 1.000001
-}
-
-/// An answer that may be a refusal: document 01's number, 0 where a value is given, and the value.
-#[derive(Clone, Copy)]
-#[repr(C)]
-pub struct Checked<T> {
-    number: u64,
-    value: T,
-}
-
-impl<T: Words> Words for Checked<T> {
-    const SHAPE: &'static [Slot] = match T::SHAPE.len() {
-        1 => &[Slot::Float; 2],
-        3 => &[Slot::Float; 4],
-        _ => &[Slot::Float; 10],
-    };
-    fn get(_: &[f64]) -> Self {
-        unreachable!()
-    }
-    fn put(self, out: &mut [u64]) {
-        out[0] = self.number;
-        self.value.put(&mut out[1..]);
-    }
-}
-
 /// The value where the directions are accepted, and otherwise 5.
 #[inline(always)]
-fn of_directions<T: Words>(directions: &[Vec3], value: impl FnOnce() -> T) -> Checked<T> {
+fn of_directions<T: Words>(directions: &[Vec3], value: impl FnOnce() -> T) -> Answer<T> {
     if directions.iter().all(|w| is_direction(*w)) {
-        return Checked { number: 0, value: value() };
+        return Answer { number: 0, value: value() };
     }
-    Checked { number: 5, value: T::get(&[0.0; 9]) }
+    Answer { number: 5, value: T::get(&[0.0; 9]) }
 }
 
 functions! {
@@ -220,18 +193,18 @@ functions! {
     608 numbers_spherical_utils_sin2_theta(w: Vec3) -> f64 = spherical_utils::sin2_theta(w);
     609 numbers_spherical_utils_tan2_theta(w: Vec3) -> f64 = spherical_utils::tan2_theta(w);
 
-    802 numbers_checked_onb(normal: Vec3) -> Checked<Basis> = of_directions(&[normal], || Onb::new(normal).into());
-    803 numbers_checked_to_local(v: Vec3, normal: Vec3) -> Checked<Vec3> = of_directions(&[v, normal], || Onb::new(normal).to_local(v));
-    804 numbers_checked_to_world(v: Vec3, normal: Vec3) -> Checked<Vec3> = of_directions(&[v, normal], || Onb::new(normal).to_world(v));
-    805 numbers_checked_same_hemisphere(v: Vec3, u: Vec3) -> Checked<bool> = of_directions(&[v, u], || spherical_utils::same_hemisphere(v, u));
-    806 numbers_checked_cos_phi(w: Vec3) -> Checked<f64> = of_directions(&[w], || spherical_utils::cos_phi(w));
-    807 numbers_checked_sin_phi(w: Vec3) -> Checked<f64> = of_directions(&[w], || spherical_utils::sin_phi(w));
-    808 numbers_checked_cos_theta(w: Vec3) -> Checked<f64> = of_directions(&[w], || spherical_utils::cos_theta(w));
-    809 numbers_checked_sin_theta(w: Vec3) -> Checked<f64> = of_directions(&[w], || spherical_utils::sin_theta(w));
-    810 numbers_checked_tan_theta(w: Vec3) -> Checked<f64> = of_directions(&[w], || spherical_utils::tan_theta(w));
-    811 numbers_checked_cos2_theta(w: Vec3) -> Checked<f64> = of_directions(&[w], || spherical_utils::cos2_theta(w));
-    812 numbers_checked_sin2_theta(w: Vec3) -> Checked<f64> = of_directions(&[w], || spherical_utils::sin2_theta(w));
-    813 numbers_checked_tan2_theta(w: Vec3) -> Checked<f64> = of_directions(&[w], || spherical_utils::tan2_theta(w));
+    802 numbers_checked_onb(normal: Vec3) -> Answer<Basis> = of_directions(&[normal], || Onb::new(normal).into());
+    803 numbers_checked_to_local(v: Vec3, normal: Vec3) -> Answer<Vec3> = of_directions(&[v, normal], || Onb::new(normal).to_local(v));
+    804 numbers_checked_to_world(v: Vec3, normal: Vec3) -> Answer<Vec3> = of_directions(&[v, normal], || Onb::new(normal).to_world(v));
+    805 numbers_checked_same_hemisphere(v: Vec3, u: Vec3) -> Answer<bool> = of_directions(&[v, u], || spherical_utils::same_hemisphere(v, u));
+    806 numbers_checked_cos_phi(w: Vec3) -> Answer<f64> = of_directions(&[w], || spherical_utils::cos_phi(w));
+    807 numbers_checked_sin_phi(w: Vec3) -> Answer<f64> = of_directions(&[w], || spherical_utils::sin_phi(w));
+    808 numbers_checked_cos_theta(w: Vec3) -> Answer<f64> = of_directions(&[w], || spherical_utils::cos_theta(w));
+    809 numbers_checked_sin_theta(w: Vec3) -> Answer<f64> = of_directions(&[w], || spherical_utils::sin_theta(w));
+    810 numbers_checked_tan_theta(w: Vec3) -> Answer<f64> = of_directions(&[w], || spherical_utils::tan_theta(w));
+    811 numbers_checked_cos2_theta(w: Vec3) -> Answer<f64> = of_directions(&[w], || spherical_utils::cos2_theta(w));
+    812 numbers_checked_sin2_theta(w: Vec3) -> Answer<f64> = of_directions(&[w], || spherical_utils::sin2_theta(w));
+    813 numbers_checked_tan2_theta(w: Vec3) -> Answer<f64> = of_directions(&[w], || spherical_utils::tan2_theta(w));
 }
 
 /// Rust's `clamp` panics where its bounds are out of order or a NaN.
@@ -281,7 +254,6 @@ extern "C" {
     fn numbers_dense_spectrum_all_finite(values: *const f64, n: usize) -> bool;
     fn numbers_dense_spectrum_is_wavelength(lambda: f64) -> bool;
     fn numbers_dense_spectrum_is_lookup_wavelength(lambda: f64) -> bool;
-    fn numbers_checked_lookup(values: *const f64, n: usize, lambda: f64) -> Checked<f64>;
 }
 
 type Lookup = extern "C-unwind" fn(*const f64, usize, f64) -> f64;
@@ -339,15 +311,15 @@ fn any_wavelength_source(rng: &mut Rng, i: usize, w: &mut [f64]) {
 }
 
 /// The checked lookup by document 01: 2, then 4 where the Rust panics.
-fn rust_lookup(values: &[f64], lambda: f64) -> Checked<f64> {
-    let refused = |number| Checked { number, value: 0.0 };
+fn rust_lookup(values: &[f64], lambda: f64) -> Answer<f64> {
+    let refused = |number| Answer { number, value: 0.0 };
     if values.len() != SAMPLES || !values.iter().all(|v| v.is_finite()) {
         return refused(2);
     }
     if panics(|| spectrum(values).sample_one(lambda)) {
         return refused(4);
     }
-    Checked { number: 0, value: spectrum(values).sample_one(lambda) }
+    Answer { number: 0, value: spectrum(values).sample_one(lambda) }
 }
 
 /// A number of entries, the entries, a wavelength of any kind, and nothing.
@@ -427,10 +399,10 @@ fn spectrum_functions() -> Vec<Function> {
         shape: vec![Slot::Float; MOST + 3],
         source: Some(checked_lookup_source),
         ..Function::new(
-            "numbers_checked_lookup",
+            "rulvimba_lookup",
             801,
             2,
-            Box::new(|w, out| unsafe { numbers_checked_lookup(w[1..].as_ptr(), w[0] as usize, w[MOST + 1]) }.put(out)),
+            Box::new(|w, out| rulvimba::lookup(&w[1..1 + w[0] as usize], w[MOST + 1]).put(out)),
             Box::new(|w, out| rust_lookup(&w[1..1 + w[0] as usize], w[MOST + 1]).put(out)),
         )
     };

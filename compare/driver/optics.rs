@@ -1,7 +1,10 @@
-//! The crate `optics` beside lumo's facets, Fresnel terms, sampler, mirror, bend and densities.
+//! The crate `optics` beside lumo's facets, Fresnel terms, sampler, mirror, bend and densities: the checked calls that
+//! librulvimba has go through it.
 use super::harness::*;
 use super::inputs::{Rng, Slot};
+use super::library::surface;
 use super::numbers::record;
+use super::rulvimba::{self, Spectra, DIRECTION, GLASS, NONE};
 use super::spectra::{self, SAMPLES};
 use super::surfaces::*;
 use crate::functions;
@@ -30,30 +33,31 @@ impl Words for Color {
     }
 }
 
-/// 0 for a direction, 1 for none, 2 for total reflection; and the direction.
+/// A mirror's or a bend's answer, as the library has it.
 #[derive(Clone, Copy)]
 #[repr(C)]
 pub struct Outgoing {
-    case: u64,
+    number: u64,
+    outcome: u64,
     wi: Vec3,
 }
 
 impl Words for Outgoing {
-    const SHAPE: &'static [Slot] = &[Slot::Float; 4];
+    const SHAPE: &'static [Slot] = &[Slot::Float; 5];
     fn get(_: &[f64]) -> Self {
         unreachable!()
     }
     fn put(self, out: &mut [u64]) {
-        out[0] = self.case;
-        self.wi.put(&mut out[1..4]);
+        out[..2].copy_from_slice(&[self.number, self.outcome]);
+        self.wi.put(&mut out[2..5]);
     }
 }
 
-/// The same, with the branch that a sampler took.
+/// A sampler's answer, with the branch that it took.
 #[derive(Clone, Copy)]
 #[repr(C)]
 pub struct Scattered {
-    case: u64,
+    outcome: u64,
     reflection: bool,
     wi: Vec3,
 }
@@ -64,53 +68,20 @@ impl Words for Scattered {
         unreachable!()
     }
     fn put(self, out: &mut [u64]) {
-        out[0] = self.case;
-        out[1] = self.reflection as u64;
+        out[..2].copy_from_slice(&[self.outcome, self.reflection as u64]);
         self.wi.put(&mut out[2..5]);
     }
-}
-
-/// An answer of a call that may refuse: document 01's number, 0 where a value is given, and the value.
-#[derive(Clone, Copy)]
-#[repr(C)]
-pub struct Checked<T> {
-    pub number: u64,
-    pub value: T,
-}
-
-impl<T: Words> Checked<T> {
-    fn put(self, out: &mut [u64]) {
-        out[0] = self.number;
-        self.value.put(&mut out[1..]);
-    }
-}
-
-/// A surface that was made.
-#[derive(Clone, Copy)]
-#[repr(C)]
-struct Made {
-    number: u64,
-    glass: bool,
-    a: Vec2,
-}
-
-#[derive(Clone, Copy)]
-#[repr(C)]
-struct CheckedOutgoing {
-    number: u64,
-    case: u64,
-    wi: Vec3,
 }
 
 #[inline(always)]
 fn outgoing(wi: Option<Vec3>) -> Outgoing {
     match wi {
-        Some(wi) => Outgoing { case: 0, wi },
-        None => Outgoing { case: 1, wi: Vec3::ZERO },
+        Some(wi) => Outgoing { number: 0, outcome: DIRECTION, wi },
+        None => Outgoing { number: 0, outcome: NONE, wi: Vec3::ZERO },
     }
 }
 
-const TOTAL: Outgoing = Outgoing { case: 2, wi: Vec3::ZERO };
+const TOTAL: Outgoing = Outgoing { number: 0, outcome: rulvimba::TOTAL, wi: Vec3::ZERO };
 
 /// lumo's `refract`; total where it comes upon `unreachable!`.
 fn rust_refract(eta: f64, wo: Vec3, n: Vec3) -> Outgoing {
@@ -134,8 +105,8 @@ fn leading() -> ColorWavelength {
 }
 
 fn of_conductor(wi: Option<Vec3>) -> Scattered {
-    let Outgoing { case, wi } = outgoing(wi);
-    Scattered { case, reflection: case == 0, wi }
+    let Outgoing { outcome, wi, .. } = outgoing(wi);
+    Scattered { outcome, reflection: outcome == DIRECTION, wi }
 }
 
 /// lumo's sampler of glass, with the branch that its test takes.
@@ -146,15 +117,16 @@ fn rust_dielectric_sample(a: Vec2, eta: f64, k: f64, wo: Vec3, u: f64, disk: f64
     let share = of.f_at(wo, wh, 360.0);
     let reflects = u < share / (share + (1.0 - share));
     match caught(|| dielectric::sample(wo, of, &mut leading(), u, random)) {
-        Some(Some(wi)) => Scattered { case: 0, reflection: reflects, wi },
-        Some(None) => Scattered { case: 1, reflection: false, wi: Vec3::ZERO },
-        None => Scattered { case: 2, reflection: false, wi: Vec3::ZERO },
+        Some(Some(wi)) => Scattered { outcome: DIRECTION, reflection: reflects, wi },
+        Some(None) => Scattered { outcome: NONE, reflection: false, wi: Vec3::ZERO },
+        None => Scattered { outcome: rulvimba::TOTAL, reflection: false, wi: Vec3::ZERO },
     }
 }
 
-fn rust_pdf(glass: bool, a: Vec2, wo: Vec3, wi: Vec3, reflection: bool, eta: f64, k: f64) -> f64 {
+fn rust_pdf(s: rulvimba::Surface, wo: Vec3, wi: Vec3, reflection: bool, eta: f64, k: f64) -> f64 {
+    let a = Vec2::new(s.roughness.x, s.roughness.y);
     // lumo's metal answers 0 to what isn't a reflection before it looks at anything else
-    if glass {
+    if s.kind == GLASS {
         return dielectric::pdf(wo, wi, reflection, &leading(), lent(a, eta, k));
     }
     metal_pdf(a, wo, wi, reflection)
@@ -208,7 +180,7 @@ functions! {
     924 optics_dielectric_sample(a: Vec2, eta: f64, k: f64, wo: Vec3, u: f64, disk: f64, c: f64, s: f64) -> Scattered = rust_dielectric_sample(a, eta, k, wo, u, disk, c, s);
     925 optics_conductor_pdf(a: Vec2, wo: Vec3, wi: Vec3) -> f64 = conductor::pdf(wo, wi, facets(a));
     926 optics_dielectric_pdf(a: Vec2, wo: Vec3, wi: Vec3, reflection: bool, eta: f64, k: f64) -> f64 = dielectric::pdf(wo, wi, reflection, &leading(), lent(a, eta, k));
-    927 optics_pdf(glass: bool, a: Vec2, wo: Vec3, wi: Vec3, reflection: bool, eta: f64, k: f64) -> f64 = rust_pdf(glass, a, wo, wi, reflection, eta, k);
+    927 optics_pdf(s: rulvimba::Surface, wo: Vec3, wi: Vec3, reflection: bool, eta: f64, k: f64) -> f64 = rust_pdf(s, wo, wi, reflection, eta, k);
 }
 
 // ---- inputs: what each word of a function stands for
@@ -382,36 +354,25 @@ extern "C" {
     fn optics_eta_at(eta: *const f64, n: usize, wl: f64) -> f64;
     fn optics_k_at(k: *const f64, n: usize, wl: f64) -> f64;
     fn optics_f(eta: *const f64, n: usize, k: *const f64, m: usize, wo: Vec3, wh: Vec3, wls: Color) -> Color;
-    fn optics_checked_make_surface(glass: bool, roughness: f64, eta: *const f64, n: usize, k: *const f64, m: usize) -> Made;
-    fn optics_checked_reflect(wo: Vec3, n: Vec3) -> CheckedOutgoing;
-    fn optics_checked_refract(eta: f64, wo: Vec3, n: Vec3) -> CheckedOutgoing;
-    fn optics_checked_is_delta(glass: bool, a: Vec2, eta: *const f64, n: usize, k: *const f64, m: usize) -> Checked<bool>;
-    fn optics_checked_lambda(glass: bool, a: Vec2, eta: *const f64, n: usize, k: *const f64, m: usize, w: Vec3) -> Checked<f64>;
-    fn optics_checked_chi_pass(glass: bool, a: Vec2, eta: *const f64, n: usize, k: *const f64, m: usize, wo: Vec3, wh: Vec3) -> Checked<bool>;
-    fn optics_checked_g1(glass: bool, a: Vec2, eta: *const f64, n: usize, k: *const f64, m: usize, wo: Vec3, wh: Vec3) -> Checked<f64>;
-    fn optics_checked_g(glass: bool, a: Vec2, eta: *const f64, n: usize, k: *const f64, m: usize, wo: Vec3, wi: Vec3, wh: Vec3) -> Checked<f64>;
-    fn optics_checked_d(glass: bool, a: Vec2, eta: *const f64, n: usize, k: *const f64, m: usize, wh: Vec3) -> Checked<f64>;
-    fn optics_checked_disney_diffuse(glass: bool, a: Vec2, eta: *const f64, n: usize, k: *const f64, m: usize, wo: f64, wi: f64, wh: f64) -> Checked<f64>;
-    fn optics_checked_f_at(glass: bool, a: Vec2, eta: *const f64, n: usize, k: *const f64, m: usize, wo: Vec3, wh: Vec3, wl: f64) -> Checked<f64>;
-    fn optics_checked_f(glass: bool, a: Vec2, eta: *const f64, n: usize, k: *const f64, m: usize, wo: Vec3, wh: Vec3, wls: Color) -> Checked<Color>;
-    fn optics_checked_sample_normal(glass: bool, a: Vec2, eta: *const f64, n: usize, k: *const f64, m: usize, wo: Vec3, disk: f64, c: f64, s: f64) -> Checked<Vec3>;
-    fn optics_checked_pdf(glass: bool, a: Vec2, eta: *const f64, n: usize, k: *const f64, m: usize, wo: Vec3, wi: Vec3, reflection: bool, wl: f64) -> Checked<f64>;
+    fn optics_checked_is_delta(s: rulvimba::Surface, eta: *const f64, n: usize, k: *const f64, m: usize) -> Answer<bool>;
+    fn optics_checked_chi_pass(s: rulvimba::Surface, eta: *const f64, n: usize, k: *const f64, m: usize, wo: Vec3, wh: Vec3) -> Answer<bool>;
+    fn optics_checked_disney_diffuse(s: rulvimba::Surface, eta: *const f64, n: usize, k: *const f64, m: usize, wo: f64, wi: f64, wh: f64) -> Answer<f64>;
 }
 
-/// How many words a surface has: whether it is glass, x and y roughness, and which eta and k of the pool.
-pub const SURFACE: usize = 5;
+/// How many words a surface has: its kind, x and y roughness, and which eta and k of the pool.
+const SURFACE: usize = 5;
 
 /// The surface of an input's first words.
 pub struct Fields<'a> {
-    pub glass: bool,
+    pub kind: u64,
     pub a: Vec2,
     pub eta: &'a [f64],
     pub k: &'a [f64],
 }
 
-pub fn fields(w: &[f64]) -> Fields<'static> {
+fn fields(w: &[f64]) -> Fields<'static> {
     Fields {
-        glass: w[0] != 0.0,
+        kind: w[0] as u64,
         a: Vec2::new(w[1], w[2]),
         eta: &POOL.etas[w[3] as usize],
         k: &POOL.ks[w[4] as usize],
@@ -419,18 +380,31 @@ pub fn fields(w: &[f64]) -> Fields<'static> {
 }
 
 impl Fields<'_> {
+    fn glass(&self) -> bool {
+        self.kind == GLASS
+    }
+
     fn refused(&self) -> u64 {
-        surface_refused(self.glass, self.a, self.eta, self.k)
+        if self.kind > GLASS { 1 } else { surface_refused(self.glass(), self.a, self.eta, self.k) }
+    }
+
+    // as the library takes them
+    fn record(&self) -> rulvimba::Surface {
+        surface(self.kind, self.a)
+    }
+
+    fn spectra(&self) -> Spectra<'_> {
+        Spectra { eta: self.eta, k: self.k }
     }
 
     /// lumo's surface, made anew where the last call had another.
     fn rust(&self) -> &'static BxDF {
         static mut LAST: Option<(bool, *const f64, *const f64, BxDF)> = None;
         let last = unsafe { &mut *std::ptr::addr_of_mut!(LAST) };
-        let key = (self.glass, self.eta.as_ptr(), self.k.as_ptr());
+        let key = (self.glass(), self.eta.as_ptr(), self.k.as_ptr());
         if !matches!(last, Some((g, e, k, _)) if (*g, *e, *k) == key) {
             let of = distribution(self.a, spectrum_of(self.eta), spectrum_of(self.k));
-            let of = if self.glass { BxDF::MfDielectric(of) } else { BxDF::MfConductor(of) };
+            let of = if self.glass() { BxDF::MfDielectric(of) } else { BxDF::MfConductor(of) };
             *last = Some((key.0, key.1, key.2, of));
         }
         let of = &mut last.as_mut().unwrap().3;
@@ -454,29 +428,40 @@ fn v3(w: &[f64]) -> Vec3 {
     Vec3::new(w[0], w[1], w[2])
 }
 
+/// A kind that is neither metal nor glass.
+pub fn other_kind(rng: &mut Rng) -> u64 {
+    [2, 3, 1 << 32, u64::MAX, 2 + (rng.next() >> 1)][rng.below(5)]
+}
+
+/// The kind of an input's surface: now and then it is neither metal nor glass.
+fn kind(w: &[f64]) -> f64 {
+    let rng = &mut Rng(w.iter().fold(0, |h, x| h.rotate_left(7) ^ x.to_bits()));
+    if rng.below(32) == 0 { other_kind(rng) as f64 } else { w[0] }
+}
+
 /// The value where neither the surface nor a check refuses, and otherwise the number of the first that does.
-fn checked<T: Words>(f: &Fields, checks: &[(u64, bool)], zero: T, value: impl FnOnce() -> T) -> Checked<T> {
+fn checked<T: Words>(f: &Fields, checks: &[(u64, bool)], zero: T, value: impl FnOnce() -> T) -> Answer<T> {
     let surface = f.refused();
     if surface != 0 {
-        return Checked { number: surface, value: zero };
+        return Answer { number: surface, value: zero };
     }
     accepted(checks, zero, value)
 }
 
 /// The same on a surface that is accepted.
-fn accepted<T: Words>(checks: &[(u64, bool)], zero: T, value: impl FnOnce() -> T) -> Checked<T> {
+fn accepted<T: Words>(checks: &[(u64, bool)], zero: T, value: impl FnOnce() -> T) -> Answer<T> {
     match checks.iter().find(|c| !c.1) {
-        Some((number, _)) => Checked { number: *number, value: zero },
-        None => Checked { number: 0, value: value() },
+        Some((number, _)) => Answer { number: *number, value: zero },
+        None => Answer { number: 0, value: value() },
     }
 }
 
 /// lumo's density on a surface that is accepted: refused 5, then 4, and 9 where it isn't finite.
-pub fn density(of: &BxDF, wo: Vec3, wi: Vec3, reflection: bool, wl: f64) -> Checked<f64> {
+pub fn density(of: &BxDF, wo: Vec3, wi: Vec3, reflection: bool, wl: f64) -> Answer<f64> {
     let checks = [(5, is_direction(wo) && is_direction(wi)), (4, is_wavelength(wl))];
     let wls = ColorWavelength { lambda: [wl, 0.0, 0.0, 0.0] };
     let c = accepted(&checks, 0.0, || of.pdf(wo, wi, reflection, &wls));
-    if c.number == 0 && !c.value.is_finite() { Checked { number: 9, value: 0.0 } } else { c }
+    if c.number == 0 && !c.value.is_finite() { Answer { number: 9, value: 0.0 } } else { c }
 }
 
 /// Fills the surface, then the parts; a few of the words are then any.
@@ -525,6 +510,7 @@ macro_rules! refusing {
                             }
                             at += part.words();
                         }
+                        w[0] = kind(w);
                     }),
                     ..Function::new(
                         $name,
@@ -539,19 +525,26 @@ macro_rules! refusing {
     };
 }
 
-/// The fields as the static library takes them.
+/// The fields as a static library takes them: of compare_path, and of librulvimba.
 macro_rules! call {
+    ( rulvimba::$name:ident, $f:expr $( , $arg:expr )* ) => {
+        rulvimba::$name($f.record(), $f.spectra() $( , $arg )* )
+    };
     ( $name:ident, $f:expr $( , $arg:expr )* ) => {
-        unsafe { $name($f.glass, $f.a, $f.eta.as_ptr(), $f.eta.len(), $f.k.as_ptr(), $f.k.len() $( , $arg )* ) }
+        unsafe { $name($f.record(), $f.eta.as_ptr(), $f.eta.len(), $f.k.as_ptr(), $f.k.len() $( , $arg )* ) }
     };
 }
 
 refusing! {
+    // the check of a surface alone; the sample has it in every other call
+    950 "rulvimba_check_surface" [] + 0 -> 1,
+        |f, _, out| call!(rulvimba::check_surface, f).put(out),
+        |f, _, out| f.refused().put(out);
     951 "optics_checked_is_delta" [] + 0 -> 2,
         |f, _, out| call!(optics_checked_is_delta, f).put(out),
         |f, _, out| checked(f, &[], false, || f.distribution().is_delta()).put(out);
-    952 "optics_checked_lambda" [Wo] + 0 -> 2,
-        |f, w, out| call!(optics_checked_lambda, f, v3(w)).put(out),
+    952 "rulvimba_lambda" [Wo] + 0 -> 2,
+        |f, w, out| call!(rulvimba::lambda, f, get(w)).put(out),
         |f, w, out| checked(f, &[(5, is_direction(v3(w)))], 0.0, || f.distribution().lambda(v3(w))).put(out);
     953 "optics_checked_chi_pass" [Wo, Wh] + 0 -> 2,
         |f, w, out| call!(optics_checked_chi_pass, f, v3(w), v3(&w[3..])).put(out),
@@ -559,34 +552,34 @@ refusing! {
             let (wo, wh) = (v3(w), v3(&w[3..]));
             checked(f, &[(5, is_direction(wo)), (5, is_direction(wh))], false, || f.distribution().chi_pass(wo, wh)).put(out)
         };
-    954 "optics_checked_g1" [Wo, Wh] + 0 -> 2,
-        |f, w, out| call!(optics_checked_g1, f, v3(w), v3(&w[3..])).put(out),
+    954 "rulvimba_g1" [Wo, Wh] + 0 -> 2,
+        |f, w, out| call!(rulvimba::g1, f, get(w), get(&w[3..])).put(out),
         |f, w, out| {
             let (wo, wh) = (v3(w), v3(&w[3..]));
             checked(f, &[(5, is_direction(wo)), (5, is_direction(wh))], 0.0, || f.distribution().g1(wo, wh)).put(out)
         };
-    955 "optics_checked_g" [Wo, Wi, Wh] + 0 -> 2,
-        |f, w, out| call!(optics_checked_g, f, v3(w), v3(&w[3..]), v3(&w[6..])).put(out),
+    955 "rulvimba_g" [Wo, Wi, Wh] + 0 -> 2,
+        |f, w, out| call!(rulvimba::g, f, get(w), get(&w[3..]), get(&w[6..])).put(out),
         |f, w, out| {
             let (wo, wi, wh) = (v3(w), v3(&w[3..]), v3(&w[6..]));
             let taken = is_direction(wo) && is_direction(wi) && is_direction(wh);
             checked(f, &[(5, taken)], 0.0, || f.distribution().g(wo, wi, wh)).put(out)
         };
-    956 "optics_checked_d" [Wh] + 0 -> 2,
-        |f, w, out| call!(optics_checked_d, f, v3(w)).put(out),
+    956 "rulvimba_d" [Wh] + 0 -> 2,
+        |f, w, out| call!(rulvimba::d, f, get(w)).put(out),
         |f, w, out| checked(f, &[(5, is_direction(v3(w)))], 0.0, || f.distribution().d(v3(w))).put(out);
     957 "optics_checked_disney_diffuse" [Cosine, Cosine, Cosine] + 0 -> 2,
         |f, w, out| call!(optics_checked_disney_diffuse, f, w[0], w[1], w[2]).put(out),
         |f, w, out| checked(f, &[], 0.0, || f.distribution().disney_diffuse(w[0], w[1], w[2])).put(out);
-    958 "optics_checked_f_at" [Wo, Wh] + 1 -> 2,
-        |f, w, out| call!(optics_checked_f_at, f, v3(w), v3(&w[3..]), w[6]).put(out),
+    958 "rulvimba_fresnel_at" [Wo, Wh] + 1 -> 2,
+        |f, w, out| call!(rulvimba::fresnel_at, f, get(w), get(&w[3..]), w[6]).put(out),
         |f, w, out| {
             let (wo, wh) = (v3(w), v3(&w[3..]));
             let checks = [(5, is_direction(wo) && is_direction(wh)), (4, is_lookup(w[6]))];
             checked(f, &checks, 0.0, || f.distribution().f_at(wo, wh, w[6])).put(out)
         };
-    959 "optics_checked_f" [Wo, Wh] + 4 -> 5,
-        |f, w, out| call!(optics_checked_f, f, v3(w), v3(&w[3..]), Color::get(&w[6..])).put(out),
+    959 "rulvimba_fresnel" [Wo, Wh] + 4 -> 5,
+        |f, w, out| call!(rulvimba::fresnel, f, get(w), get(&w[3..]), get(&w[6..])).put(out),
         |f, w, out| {
             let (wo, wh) = (v3(w), v3(&w[3..]));
             let checks = [(5, is_direction(wo) && is_direction(wh)), (4, w[6..10].iter().all(|l| is_lookup(*l)))];
@@ -595,41 +588,38 @@ refusing! {
                 Color(f.distribution().f(wo, wh, &wls).samples)
             }).put(out)
         };
-    960 "optics_checked_sample_normal" [Wo, Disk, Pair] + 0 -> 4,
-        |f, w, out| call!(optics_checked_sample_normal, f, v3(w), w[3], w[4], w[5]).put(out),
+    960 "rulvimba_sample_normal" [Wo, Disk, Pair] + 0 -> 4,
+        |f, w, out| call!(rulvimba::sample_normal, f, get(w), w[3], w[4], w[5]).put(out),
         |f, w, out| {
             let checks = [(5, is_direction(v3(w))), (6, is_random(w[3])), (7, is_pair(w[4], w[5]))];
             let random = Random { x: w[3], y: 0.0, c: w[4], s: w[5] };
             checked(f, &checks, Vec3::ZERO, || f.distribution().sample_normal(v3(w), random)).put(out)
         };
-    961 "optics_checked_pdf" [Wo, Wi, Flag] + 1 -> 2,
-        |f, w, out| call!(optics_checked_pdf, f, v3(w), v3(&w[3..]), w[6] != 0.0, w[7]).put(out),
+    961 "rulvimba_density" [Wo, Wi, Flag] + 1 -> 2,
+        |f, w, out| call!(rulvimba::density, f, get(w), get(&w[3..]), w[6] != 0.0, w[7]).put(out),
         |f, w, out| {
             let answer = match f.refused() {
                 0 => density(f.rust(), v3(w), v3(&w[3..]), w[6] != 0.0, w[7]),
-                number => Checked { number, value: 0.0 },
+                number => Answer { number, value: 0.0 },
             };
             answer.put(out)
         };
     // roughness x, raised, is the one number
-    962 "optics_checked_make_surface" [] + 0 -> 4,
-        |f, _, out| {
-            let m = unsafe { optics_checked_make_surface(f.glass, f.a.x, f.eta.as_ptr(), f.eta.len(), f.k.as_ptr(), f.k.len()) };
-            out.copy_from_slice(&[m.number, m.glass as u64, bits(m.a.x), bits(m.a.y)]);
-        },
+    962 "rulvimba_make_surface" [] + 0 -> 4,
+        |f, _, out| rulvimba::make_surface(f.kind, f.a.x, f.spectra()).put(out),
         |f, _, out| out.copy_from_slice(&rust_make_surface(f));
-    963 "optics_checked_reflect" [Wo, Wh] + 0 -> 5,
-        |_, w, out| put_checked(unsafe { optics_checked_reflect(v3(w), v3(&w[3..])) }, out),
+    963 "rulvimba_reflect" [Wo, Wh] + 0 -> 5,
+        |_, w, out| rulvimba::reflect(get(w), get(&w[3..])).put(out),
         |_, w, out| {
             let (wo, n) = (v3(w), v3(&w[3..]));
-            put_outgoing(&[(5, is_direction(wo) && is_direction(n))], || outgoing(util::reflect(wo, n)), out)
+            checked_outgoing(&[(5, is_direction(wo) && is_direction(n))], || outgoing(util::reflect(wo, n))).put(out)
         };
-    964 "optics_checked_refract" [Index, Wo, Wh] + 0 -> 5,
-        |_, w, out| put_checked(unsafe { optics_checked_refract(w[0], v3(&w[1..]), v3(&w[4..])) }, out),
+    964 "rulvimba_refract" [Index, Wo, Wh] + 0 -> 5,
+        |_, w, out| rulvimba::refract(w[0], get(&w[1..]), get(&w[4..])).put(out),
         |_, w, out| {
             let (wo, n) = (v3(&w[1..]), v3(&w[4..]));
             let checks = [(2, within(0.01, 100.0, w[0])), (5, is_direction(wo) && is_direction(n))];
-            put_outgoing(&checks, || rust_refract(w[0], wo, n), out)
+            checked_outgoing(&checks, || rust_refract(w[0], wo, n)).put(out)
         };
     // unchecked, on spectra of 95 entries
     931 "optics_constant_eta" [] + 0 -> 1,
@@ -669,12 +659,15 @@ fn at_hand(l: f64) -> f64 {
 /// A surface of the roughness `f.a.x`, as words.
 fn rust_make_surface(f: &Fields) -> [u64; 4] {
     let made = make_surface(f);
-    [made.number, (made.number == 0 && f.glass) as u64, bits(made.value.x), bits(made.value.y)]
+    [made.number, (made.number == 0 && f.glass()) as u64, bits(made.value.x), bits(made.value.y)]
 }
 
 /// x and y roughness by `MicrofacetConfig::new`, whose assertion is the refusal 1; then 2 and 3.
-pub fn make_surface(f: &Fields) -> Checked<Vec2> {
-    let refused = |number| Checked { number, value: Vec2::new(0.0, 0.0) };
+pub fn make_surface(f: &Fields) -> Answer<Vec2> {
+    let refused = |number| Answer { number, value: Vec2::new(0.0, 0.0) };
+    if f.kind > GLASS {
+        return refused(1);
+    }
     let made = caught(|| {
         let one = crate::tracer::DenseSpectrum::from_constant;
         let t = crate::tracer::Texture::default;
@@ -684,23 +677,16 @@ pub fn make_surface(f: &Fields) -> Checked<Vec2> {
     if eta_refused(f.eta) {
         return refused(2);
     }
-    if k_refused(f.glass, f.k) {
+    if k_refused(f.glass(), f.k) {
         return refused(3);
     }
-    Checked { number: 0, value: a }
+    Answer { number: 0, value: a }
 }
 
-fn put_checked(c: CheckedOutgoing, out: &mut [u64]) {
-    out[0] = c.number;
-    out[1] = c.case;
-    c.wi.put(&mut out[2..5]);
-}
-
-fn put_outgoing(checks: &[(u64, bool)], value: impl FnOnce() -> Outgoing, out: &mut [u64]) {
-    out.fill(0);
+fn checked_outgoing(checks: &[(u64, bool)], value: impl FnOnce() -> Outgoing) -> Outgoing {
     match checks.iter().find(|c| !c.1) {
-        Some((number, _)) => out[0] = *number,
-        None => value().put(&mut out[1..5]),
+        Some((number, _)) => Outgoing { number: *number, outcome: 0, wi: Vec3::ZERO },
+        None => value(),
     }
 }
 
@@ -760,15 +746,29 @@ impl Written {
 const SAMPLED: usize = 40;
 const ON_EACH: usize = 2;
 
+/// Document 01's samples of a surface that is made: roughness 0 is accepted as 1e-5; -1e-9 and NaN are 1.
+fn sample_roughness(written: &mut Written, out: &mut String) {
+    let (eta, k) = ([1.5; SAMPLES], [0.0; SAMPLES]);
+    written.write(&eta, &k, out);
+    for (a, number) in [(0.0, 0), (-1e-9, 1), (f64::NAN, 1)] {
+        let f = Fields { kind: GLASS, a: Vec2::splat(a), eta: &eta, k: &k };
+        let made = rust_make_surface(&f);
+        assert!(made[0] == number && f64::from_bits(made[2]) == [1e-5, 0.0][number as usize], "document 01's roughness {a}");
+        record(out, 962, &[1.0, a, a], &made);
+    }
+}
+
 /// Records of every function: the number, the counts of words, the words in, the Rust's words out.
 pub fn sample(seed: u64) -> String {
     let mut out = String::new();
-    let (of_surfaces, others): (Vec<Function>, Vec<Function>) = table().into_iter().partition(|f| f.number > 930);
+    let recorded = table().into_iter().filter(|f| f.number != 950);
+    let (of_surfaces, others): (Vec<Function>, Vec<Function>) = recorded.partition(|f| f.number > 930);
     for f in &others {
         f.sample(seed, 60, &mut out);
     }
     let rng = &mut Rng(seed);
     let mut written = Written::new();
+    sample_roughness(&mut written, &mut out);
     for at in 0..SAMPLED {
         let glass = at % 2 == 0;
         let [mut eta, mut k] = POOL.pick(rng, glass);
@@ -834,7 +834,7 @@ extern "C-unwind" fn rust_f(s: &Surface, wo: Vec3, wh: Vec3, wl: f64) -> f64 {
 
 fn here_pdf(s: &Surface, wo: Vec3, wi: Vec3, reflection: bool, wl: f64) -> f64 {
     let (eta, k) = eta_and_k(s, wl);
-    unsafe { here::optics_pdf(s.glass, s.a, wo, wi, reflection, eta, k) }
+    unsafe { here::optics_pdf(surface(s.glass as u64, s.a), wo, wi, reflection, eta, k) }
 }
 
 fn lumo_pdf(s: &Surface, wo: Vec3, wi: Vec3, reflection: bool, wl: f64) -> f64 {

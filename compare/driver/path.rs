@@ -1,10 +1,11 @@
-//! The crate `path` beside lumo's `BSDF::sample` and `BxDF::pdf`, with document 01's refusals, weights and
-//! shares written once more from the document: whole bounces, in lists on one path.
+//! A whole bounce by lumo's `BSDF::sample` and `BxDF::pdf`, with document 01's refusals, weights and shares written
+//! once more from the document; and lists of bounces on one path as inputs. library.rs has what is held against it.
 use super::harness::*;
 use super::inputs::{near_unit, Rng};
 use super::library::output_of;
 use super::numbers::record;
 use super::optics::{caught, g_over_g1, Color, Written};
+pub use super::rulvimba::{LOST, PASSED, REFLECTED, REFUSED};
 use super::spectra;
 use super::surfaces::*;
 use crate::stand_in::Random;
@@ -50,11 +51,6 @@ pub struct Shares {
     pub passed: f64,
 }
 
-pub const REFUSED: u64 = 0;
-pub const LOST: u64 = 1;
-pub const REFLECTED: u64 = 2;
-pub const PASSED: u64 = 3;
-
 /// What a bounce answers: document 01's number, 0 where it isn't refused; the case; what it carries.
 #[derive(Clone, Copy)]
 #[repr(C)]
@@ -65,19 +61,6 @@ pub struct Bounced {
     pub density: Density,
     pub shares: Shares,
     pub path: Path,
-}
-
-#[derive(Clone, Copy)]
-#[repr(C)]
-struct Started {
-    number: u64,
-    path: Path,
-}
-
-extern "C" {
-    fn path_start(lambda: Color) -> Started;
-    fn path_bounce(path: Path, glass: bool, a: Vec2, eta: *const f64, n: usize, k: *const f64, m: usize, b: Bounce) -> Bounced;
-    fn path_bounce_on(path: &mut Path, glass: bool, a: Vec2, eta: *const f64, n: usize, k: *const f64, m: usize, b: Bounce) -> Bounced;
 }
 
 /// How many words an answer has, and a bounce without its surface.
@@ -120,10 +103,6 @@ pub fn words_in(p: &Path, b: &Bounce) -> [f64; INS] {
     w[19..23].copy_from_slice(&b.ks.0);
     w[23..27].copy_from_slice(&b.tf.0);
     w
-}
-
-pub fn here(p: &Path, s: &Surface, b: &Bounce) -> Bounced {
-    unsafe { path_bounce(*p, s.glass, s.a, s.eta.as_ptr(), s.eta.len(), s.k.as_ptr(), s.k.len(), *b) }
 }
 
 // ---- document 01, once more
@@ -502,26 +481,6 @@ pub fn rust_start(lambda: Color) -> Option<Path> {
     lambda.0.iter().all(|l| is_wavelength(*l)).then_some(Path { lambda, power: ONES })
 }
 
-fn compare_start(seed: u64, count: usize) -> usize {
-    let rng = &mut Rng(seed ^ 0x57a7);
-    let nothing = Path { lambda: Color([0.0; 4]), power: Color([0.0; 4]) };
-    let mut differences = 0;
-    for i in 0..count {
-        let lambda = start_input(rng, i);
-        let here = unsafe { path_start(lambda) };
-        let rust = rust_start(lambda);
-        let number = if rust.is_some() { 0 } else { 4 };
-        if here.number != number || here.path.words() != rust.unwrap_or(nothing).words() {
-            differences += 1;
-            if differences <= 3 {
-                println!("  path_start\n    in  {}\n    here {} rust {number}", hex_floats(&lambda.0), here.number);
-            }
-        }
-    }
-    println!("{:<44} {count:>9} inputs {differences:>6} differences", "path_start");
-    differences
-}
-
 /// What answers the bounces of a walk.
 pub trait Subject {
     const NAME: &'static str;
@@ -531,46 +490,6 @@ pub trait Subject {
 
     /// Other surfaces take the place of these.
     fn surfaces_end(&mut self, _of: &[Lumo]) {}
-}
-
-/// The crate's own bounce, by value.
-struct ByValue;
-
-impl Subject for ByValue {
-    const NAME: &'static str = "path_bounce";
-
-    fn bounce(&mut self, p: &Path, _: usize, of: &Lumo, b: &Bounce, _: Option<&Bounced>) -> (Bounced, [u64; OUTS]) {
-        let a = here(p, &of.surface, b);
-        (a, a.words())
-    }
-}
-
-/// The thin form, on a path in memory.
-#[derive(Default)]
-struct Thin {
-    /// How often memory was not as it must be: the words about the path, the path after a refusal, or a path other than
-    /// the answer's.
-    in_memory: usize,
-}
-
-impl Subject for Thin {
-    const NAME: &'static str = "path_bounce_on";
-
-    /// The answer with the path that is in memory.
-    fn bounce(&mut self, p: &Path, _: usize, of: &Lumo, b: &Bounce, _: Option<&Bounced>) -> (Bounced, [u64; OUTS]) {
-        let s = &of.surface;
-        let mut path = Guarded::new(*p);
-        let a = unsafe { path_bounce_on(&mut path.held, s.glass, s.a, s.eta.as_ptr(), s.eta.len(), s.k.as_ptr(), s.k.len(), *b) };
-        if !path.is_kept(p, a.number != 0) || !same_bytes(&path.held, &a.path) {
-            self.in_memory += 1;
-            if self.in_memory <= 3 {
-                println!("  {}, number {}: memory is not as it must be", Self::NAME, a.number);
-                println!("    in  {}\n    here {}\n    kept {}", hex_floats(&words_in(p, b)), hex(&a.words()), hex(&path.held.words()));
-            }
-        }
-        let a = Bounced { path: path.held, ..a };
-        (a, a.words())
-    }
 }
 
 /// Lists of bounces on one path, `bounces` of them or a few more, each beside the driver's own answer; the first
@@ -626,17 +545,6 @@ pub fn walk<S: Subject>(seed: u64, bounces: usize, subject: &mut S) -> Counts {
     }
     subject.surfaces_end(&of);
     c
-}
-
-pub fn compare(seed: u64, count: usize) -> usize {
-    let starts = compare_start(seed, count);
-    let by_value = walk(seed, count * 5, &mut ByValue);
-    by_value.print(ByValue::NAME);
-    let mut thin = Thin::default();
-    let by_reference = walk(seed, count * 5, &mut thin);
-    by_reference.print(Thin::NAME);
-    println!("  differences in memory {}", thin.in_memory);
-    starts + by_value.differences + by_reference.differences + thin.in_memory
 }
 
 // ---- the sample: a record for each bounce of a list, with the path before it
@@ -789,14 +697,6 @@ fn plain_on(p: Path, s: &Surface, constant: bool, b: Bounce) -> Bounced {
         path: Path { lambda: Color(lambda.lambda), power: Color(power) },
     }
 }
-
-/// The same through the static library.
-#[inline(never)]
-pub extern "C-unwind" fn checked_bounce(p: Path, s: &Surface, b: Bounce) -> Bounced {
-    here(&p, s, &b)
-}
-
-pub type BounceCall = extern "C-unwind" fn(Path, &Surface, Bounce) -> Bounced;
 
 /// A surface as a renderer has it.
 pub fn usual_surface(rng: &mut Rng, glass: bool, rough: bool, varying: bool) -> Surface {

@@ -1,6 +1,5 @@
 // Mirror, bend, samplers and densities.
 use crate::results;
-use crate::results::OutgoingResult;
 use crate::results::ScatteredResult;
 use numbers::vec2::Vec2;
 use numbers::vec3::Vec3;
@@ -8,21 +7,27 @@ use optics::bxdf;
 use optics::bxdf::conductor;
 use optics::bxdf::dielectric;
 use optics::microfacet::Ggx;
+use rulvimba::records::DirectionResult;
+use rulvimba::surfaces;
+use rulvimba::surfaces::SurfaceRecord;
 ghost use mathlib.Core.Path.{_≡_};
 ghost use Rattle.optics.specs.Bxdf.{reflect, refract, conductorSample, dielectricSample};
 ghost use Rattle.optics.specs.Density.{conductorPdf, dielectricPdf, pdfOf};
-ghost use Rattle.compare_path.specs.Results.{kindOf, outgoingResult, scatteredResult};
+ghost use Rattle.numbers.specs.Refusal.{given};
+ghost use Rattle.rulvimba.specs.Results.{directionResult};
+ghost use Rattle.rulvimba.specs.Surfaces.{surfaceOf};
+ghost use Rattle.compare_path.specs.Results.{scatteredResult};
 
 #[no_mangle]
-pub extern "C" fn optics_reflect(wo: Vec3, n: Vec3) -> OutgoingResult
-    ensures { λ r. ⌜ r ≡ outgoingResult (reflect wo n) ⌝ }
+pub extern "C" fn optics_reflect(wo: Vec3, n: Vec3) -> DirectionResult
+    ensures { λ r. ⌜ r ≡ directionResult (given (reflect wo n)) ⌝ }
 {
     results::of_reflected(bxdf::reflect(wo, n))
 }
 
 #[no_mangle]
-pub extern "C" fn optics_refract(eta: f64, wo: Vec3, n: Vec3) -> OutgoingResult
-    ensures { λ r. ⌜ r ≡ outgoingResult (refract eta wo n) ⌝ }
+pub extern "C" fn optics_refract(eta: f64, wo: Vec3, n: Vec3) -> DirectionResult
+    ensures { λ r. ⌜ r ≡ directionResult (given (refract eta wo n)) ⌝ }
 {
     results::of_refracted(bxdf::refract(eta, wo, n))
 }
@@ -83,16 +88,18 @@ pub extern "C" fn optics_dielectric_pdf(
 
 #[no_mangle]
 pub extern "C" fn optics_pdf(
-    glass: bool,
-    a: Vec2,
+    surface: SurfaceRecord,
     wo: Vec3,
     wi: Vec3,
     reflection: bool,
     eta: f64,
     k: f64,
 ) -> f64
-    ensures { λ r. ⌜ r ≡ pdfOf (kindOf glass) a eta k reflection wo wi ⌝ }
+    ensures { λ r. ⌜ r ≡ pdfOf ((surfaceOf surface) .kind) ((surfaceOf surface) .roughness) eta k reflection wo wi ⌝ }
 {
-    let mfd = Ggx { roughness: a };
-    bxdf::pdf(results::kind_of(glass), mfd, wo, wi, reflection, eta, k)
+    let made = surfaces::of_record(surface);
+    let kind = made.kind;
+    let roughness = made.roughness;
+    let mfd = Ggx { roughness };
+    bxdf::pdf(kind, mfd, wo, wi, reflection, eta, k)
 }

@@ -1,20 +1,23 @@
 // Angles.
-use crate::record::Answer;
-use crate::record::Words;
+use crate::words::same_bool;
+use crate::words::same_float;
 use numbers::spherical_utils;
+use numbers::vec3::Vec3;
 
-// The answer of the function `number`, and nothing for another number.
-pub fn replay(number: u64, w: Words) -> Answer {
+// Whether the answer of the function `number` is the record's.
+pub fn replay(fd: i32, number: u64, w: &[f64; 30]) -> bool {
+    let a = Vec3::new(w[0], w[1], w[2]);
+    let b = Vec3::new(w[3], w[4], w[5]);
     match number {
-        601 => Answer::of_bool(spherical_utils::same_hemisphere(w.abc(), w.def())),
-        602 => Answer::of_float(spherical_utils::cos_phi(w.abc())),
-        603 => Answer::of_float(spherical_utils::sin_phi(w.abc())),
-        604 => Answer::of_float(spherical_utils::cos_theta(w.abc())),
-        605 => Answer::of_float(spherical_utils::sin_theta(w.abc())),
-        606 => Answer::of_float(spherical_utils::tan_theta(w.abc())),
-        607 => Answer::of_float(spherical_utils::cos2_theta(w.abc())),
-        608 => Answer::of_float(spherical_utils::sin2_theta(w.abc())),
-        609 => Answer::of_float(spherical_utils::tan2_theta(w.abc())),
-        _ => Answer::none(),
+        601 => same_bool(fd, spherical_utils::same_hemisphere(a, b)),
+        602 => same_float(fd, spherical_utils::cos_phi(a)),
+        603 => same_float(fd, spherical_utils::sin_phi(a)),
+        604 => same_float(fd, spherical_utils::cos_theta(a)),
+        605 => same_float(fd, spherical_utils::sin_theta(a)),
+        606 => same_float(fd, spherical_utils::tan_theta(a)),
+        607 => same_float(fd, spherical_utils::cos2_theta(a)),
+        608 => same_float(fd, spherical_utils::sin2_theta(a)),
+        609 => same_float(fd, spherical_utils::tan2_theta(a)),
+        _ => false,
     }
 }

@@ -1,64 +1,46 @@
-// Functions that refuse. An answer is document 01's number, 0 where a value is given, and the value. The
-// record 800 has the entries for those after it.
-use crate::record::Answer;
-use crate::record::Words;
+// Functions of numbers that refuse. The record 800 has the entries for those after it.
+use crate::words;
+use crate::words::same_float_answer;
+use crate::words::same_vec3_answer;
 use numbers::checked;
-use numbers::checked::BoolAnswer;
-use numbers::checked::FloatAnswer;
 use numbers::checked::OnbAnswer;
-use numbers::checked::Vec3Answer;
+use numbers::onb::Onb;
+use numbers::vec3::Vec3;
 
-fn of_float(answer: FloatAnswer) -> Answer {
+fn same_onb_answer(fd: i32, answer: OnbAnswer) -> bool {
     match answer {
-        FloatAnswer::Refused(why) => Answer::of_number(why.number()),
-        FloatAnswer::Given(x) => Answer::of_float(x).given(),
+        OnbAnswer::Refused(why) => {
+            let n = words::same_number(fd, why.number());
+            let zero = Vec3::splat(0.0);
+            let uvw = Onb {
+                u: zero,
+                v: zero,
+                w: zero,
+            };
+            n & words::same_basis(fd, uvw)
+        }
+        OnbAnswer::Given(uvw) => words::same_number(fd, 0) & words::same_basis(fd, uvw),
     }
 }
 
-fn of_bool(answer: BoolAnswer) -> Answer {
-    match answer {
-        BoolAnswer::Refused(why) => Answer::of_number(why.number()),
-        BoolAnswer::Given(b) => Answer::of_bool(b).given(),
-    }
-}
-
-fn of_vec3(answer: Vec3Answer) -> Answer {
-    match answer {
-        Vec3Answer::Refused(why) => Answer::of_number(why.number()),
-        Vec3Answer::Given(v) => Answer::of_vec3(v).given(),
-    }
-}
-
-fn of_onb(answer: OnbAnswer) -> Answer {
-    match answer {
-        OnbAnswer::Refused(why) => Answer::of_number(why.number()),
-        OnbAnswer::Given(b) => Answer::of_basis(b).given(),
-    }
-}
-
-// The answer of the function `number`, and nothing for another number.
-fn of_directions(number: u64, w: Words) -> Answer {
+// Whether the answer of the function `number` is the record's.
+pub fn replay(fd: i32, number: u64, w: &[f64; 30], values: &[f64]) -> bool {
+    let a = Vec3::new(w[0], w[1], w[2]);
+    let b = Vec3::new(w[3], w[4], w[5]);
     match number {
-        802 => of_onb(checked::onb(w.abc())),
-        803 => of_vec3(checked::to_local(w.abc(), w.def())),
-        804 => of_vec3(checked::to_world(w.abc(), w.def())),
-        805 => of_bool(checked::same_hemisphere(w.abc(), w.def())),
-        806 => of_float(checked::cos_phi(w.abc())),
-        807 => of_float(checked::sin_phi(w.abc())),
-        808 => of_float(checked::cos_theta(w.abc())),
-        809 => of_float(checked::sin_theta(w.abc())),
-        810 => of_float(checked::tan_theta(w.abc())),
-        811 => of_float(checked::cos2_theta(w.abc())),
-        812 => of_float(checked::sin2_theta(w.abc())),
-        813 => of_float(checked::tan2_theta(w.abc())),
-        _ => Answer::none(),
+        801 => same_float_answer(fd, checked::lookup(values, w[0])),
+        802 => same_onb_answer(fd, checked::onb(a)),
+        803 => same_vec3_answer(fd, checked::to_local(a, b)),
+        804 => same_vec3_answer(fd, checked::to_world(a, b)),
+        805 => words::same_bool_answer(fd, checked::same_hemisphere(a, b)),
+        806 => same_float_answer(fd, checked::cos_phi(a)),
+        807 => same_float_answer(fd, checked::sin_phi(a)),
+        808 => same_float_answer(fd, checked::cos_theta(a)),
+        809 => same_float_answer(fd, checked::sin_theta(a)),
+        810 => same_float_answer(fd, checked::tan_theta(a)),
+        811 => same_float_answer(fd, checked::cos2_theta(a)),
+        812 => same_float_answer(fd, checked::sin2_theta(a)),
+        813 => same_float_answer(fd, checked::tan2_theta(a)),
+        _ => false,
     }
-}
-
-// The same, and the lookup.
-pub fn replay(number: u64, w: Words, values: &[f64]) -> Answer {
-    if number == 801 {
-        return of_float(checked::lookup(values, w.a));
-    }
-    of_directions(number, w)
 }

@@ -1,35 +1,40 @@
 // Complex numbers.
-use crate::record::Answer;
-use crate::record::Words;
+use crate::words::same_complex;
+use crate::words::same_float;
 use numbers::complex::Complex;
 
-// The answer of the function `number`, and nothing for another number.
-pub fn replay(number: u64, w: Words) -> Answer {
+// Whether the answer of the function `number` is the record's.
+pub fn replay(fd: i32, number: u64, w: &[f64; 30]) -> bool {
+    let z = Complex::new(w[0], w[1]);
+    let y = Complex::new(w[2], w[3]);
+    let x = Complex::new(w[1], w[2]);
     match number {
-        401 => Answer::of_complex(Complex::new(w.a, w.b)),
-        402 => Answer::of_complex(Complex::from(w.a)),
-        403 => Answer::of_float(Complex::norm_sqr(w.complex_ab())),
-        404 => Answer::of_complex(Complex::co(w.complex_ab())),
-        405 => Answer::of_complex(Complex::sqrt(w.complex_ab())),
-        406 => Answer::of_float(Complex::norm(w.complex_ab())),
-        407 => Answer::of_float(Complex::cos_half(w.complex_ab(), w.c)),
-        408 => Answer::of_float(Complex::sin_half(w.complex_ab(), w.c)),
-        409 => Answer::of_complex(Complex::add(w.complex_ab(), w.complex_cd())),
-        410 => Answer::of_complex(Complex::float_add(w.a, w.complex_bc())),
-        411 => Answer::of_complex(Complex::sub(w.complex_ab(), w.complex_cd())),
-        412 => Answer::of_complex(Complex::float_sub(w.a, w.complex_bc())),
-        413 => Answer::of_complex(Complex::mul(w.complex_ab(), w.complex_cd())),
-        414 => Answer::of_complex(Complex::mul_float(w.complex_ab(), w.c)),
-        415 => Answer::of_complex(Complex::float_mul(w.a, w.complex_bc())),
-        416 => Answer::of_complex(Complex::div(w.complex_ab(), w.complex_cd())),
-        _ => replay2(number, w),
+        401 => same_complex(fd, z),
+        402 => same_complex(fd, Complex::from(w[0])),
+        403 => same_float(fd, Complex::norm_sqr(z)),
+        404 => same_complex(fd, Complex::co(z)),
+        405 => same_complex(fd, Complex::sqrt(z)),
+        406 => same_float(fd, Complex::norm(z)),
+        407 => same_float(fd, Complex::cos_half(z, w[2])),
+        408 => same_float(fd, Complex::sin_half(z, w[2])),
+        409 => same_complex(fd, Complex::add(z, y)),
+        410 => same_complex(fd, Complex::float_add(w[0], x)),
+        411 => same_complex(fd, Complex::sub(z, y)),
+        412 => same_complex(fd, Complex::float_sub(w[0], x)),
+        413 => same_complex(fd, Complex::mul(z, y)),
+        414 => same_complex(fd, Complex::mul_float(z, w[2])),
+        415 => same_complex(fd, Complex::float_mul(w[0], x)),
+        416 => same_complex(fd, Complex::div(z, y)),
+        _ => replay2(fd, number, w),
     }
 }
 
-fn replay2(number: u64, w: Words) -> Answer {
+fn replay2(fd: i32, number: u64, w: &[f64; 30]) -> bool {
+    let z = Complex::new(w[0], w[1]);
+    let x = Complex::new(w[1], w[2]);
     match number {
-        417 => Answer::of_complex(Complex::div_float(w.complex_ab(), w.c)),
-        418 => Answer::of_complex(Complex::float_div(w.a, w.complex_bc())),
-        _ => Answer::none(),
+        417 => same_complex(fd, Complex::div_float(z, w[2])),
+        418 => same_complex(fd, Complex::float_div(w[0], x)),
+        _ => false,
     }
 }

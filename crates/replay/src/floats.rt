@@ -1,25 +1,25 @@
 // Floats.
-use crate::record::Answer;
-use crate::record::Words;
+use crate::words::same_bool;
+use crate::words::same_float;
 use numbers::float;
 use numbers::square_root;
 
-// The answer of the function `number`, and nothing for another number.
-pub fn replay(number: u64, w: Words) -> Answer {
+// Whether the answer of the function `number` is the record's.
+pub fn replay(fd: i32, number: u64, w: &[f64; 30]) -> bool {
     match number {
-        101 => Answer::of_float(float::max(w.a, w.b)),
-        102 => Answer::of_float(float::min(w.a, w.b)),
-        103 => Answer::of_float(float::clamp(w.a, w.b, w.c)),
-        104 => Answer::of_float(float::abs(w.a)),
-        105 => Answer::of_bool(float::is_sign_negative(w.a)),
-        106 => Answer::of_float(float::signum(w.a)),
-        107 => Answer::of_bool(float::is_infinite(w.a)),
-        108 => Answer::of_bool(float::is_finite(w.a)),
-        109 => Answer::of_float(float::powi2(w.a)),
-        110 => Answer::of_float(float::powi5(w.a)),
-        111 => Answer::of_bool(float::within(w.a, w.b, w.c)),
-        112 => Answer::of_float(float::nan()),
-        120 => Answer::of_float(square_root::sqrt(w.a)),
-        _ => Answer::none(),
+        101 => same_float(fd, float::max(w[0], w[1])),
+        102 => same_float(fd, float::min(w[0], w[1])),
+        103 => same_float(fd, float::clamp(w[0], w[1], w[2])),
+        104 => same_float(fd, float::abs(w[0])),
+        105 => same_bool(fd, float::is_sign_negative(w[0])),
+        106 => same_float(fd, float::signum(w[0])),
+        107 => same_bool(fd, float::is_infinite(w[0])),
+        108 => same_bool(fd, float::is_finite(w[0])),
+        109 => same_float(fd, float::powi2(w[0])),
+        110 => same_float(fd, float::powi5(w[0])),
+        111 => same_bool(fd, float::within(w[0], w[1], w[2])),
+        112 => same_float(fd, float::nan()),
+        120 => same_float(fd, square_root::sqrt(w[0])),
+        _ => false,
     }
 }

@@ -1,8 +1,7 @@
 // Replays a sample of the Rust's answers through the libraries. For each family of functions: how many
 // records there are and how many of them differ; and before that the line of each that differs.
 use libc::STDOUT_FILENO;
-use record::Answer;
-use record::Words;
+use record::Head;
 
 mod angles;
 mod bases;
@@ -18,15 +17,16 @@ mod vectors2;
 mod vectors3;
 mod words;
 
-// What was counted in a family so far, the line of the next record, and how many entries the spectrum
-// has that the records are about.
+// Whether there may be more, what was counted in a family so far, the line of the last record, and how
+// many entries eta and k have.
 struct Tally {
     go: bool,
-    entries: usize,
     family: u64,
     line: u64,
     records: u64,
     differences: u64,
+    eta: usize,
+    k: usize,
 }
 
 fn print(text: &[u8]) {
@@ -72,266 +72,144 @@ fn next(n: u64) -> u64 {
     n
 }
 
-// The libraries' answer.
-fn answer(number: u64, w: Words, values: &[f64]) -> Answer {
-    match number / 100 {
-        1 => floats::replay(number, w),
-        2 => vectors2::replay(number, w),
-        3 => vectors3::replay(number, w),
-        4 => complexes::replay(number, w),
-        5 => bases::replay(number, w),
-        6 => angles::replay(number, w),
-        7 => spectra::replay(number, w, values),
-        8 => checked::replay(number, w, values),
-        _ => Answer::none(),
-    }
-}
-
-// A tally of the family, which a new family begins anew.
-fn of_family(t: Tally, family: u64) -> Tally {
-    if t.family == family {
-        return t;
-    }
-    if 0 < t.records {
-        print_counts(t);
-    }
-    Tally {
-        go: true,
-        entries: t.entries,
-        family: family,
-        line: t.line,
-        records: 0,
-        differences: 0,
-    }
-}
-
-// One record more.
-fn counted(t: Tally, same: bool) -> Tally {
-    if same {
-        return Tally {
-            go: true,
-            entries: t.entries,
-            family: t.family,
-            line: next(t.line),
-            records: next(t.records),
-            differences: t.differences,
-        };
-    }
-    print_difference(t.line);
-    Tally {
-        go: true,
-        entries: t.entries,
-        family: t.family,
-        line: next(t.line),
-        records: next(t.records),
-        differences: next(t.differences),
-    }
-}
-
-// The tally where the next records are about a spectrum of `n` entries.
-fn with_entries(t: Tally, n: u64) -> Tally {
-    Tally {
-        go: true,
-        entries: (n % 256) as usize,
-        family: t.family,
-        line: next(t.line),
-        records: t.records,
-        differences: t.differences,
-    }
-}
-
-// Reads what follows the head of a record, and answers the tally with it.
-fn step_after(fd: i32, t: Tally, number: u64, ins: u64, outs: u64, entries: &[f64]) -> Tally {
-    let w = record::read_words(fd, ins);
-    let rust = record::read_answer(fd, outs);
-    record::line_end(fd);
-    let n = t.entries;
-    let here = answer(number, w, record::first(entries, n));
-    counted(t, here.same(rust))
-}
-
-// Reads a record, and answers the tally with it; at the end of the file one that doesn't go on.
-fn step(fd: i32, t: Tally, entries: &mut [f64]) -> Tally {
-    let head = record::read_head(fd);
-    if !head.there {
-        print_counts(t);
-        return Tally {
-            go: false,
-            entries: 0,
-            family: 0,
-            line: t.line,
-            records: 0,
-            differences: 0,
-        };
-    }
-    let now = of_family(t, head.number / 100);
-    if head.number % 100 == 0 {
-        record::read_entries(fd, head.ins, entries);
-        record::line_end(fd);
-        return with_entries(now, head.ins);
-    }
-    step_after(fd, now, head.number, head.ins, head.outs, entries)
-}
-
-// A proved loop has to end, so it counts its turns.
-fn replay(fd: i32, entries: &mut [f64]) {
-    let mut t = Tally {
-        go: true,
-        entries: 0,
-        family: 0,
-        line: 1,
-        records: 0,
-        differences: 0,
-    };
-    let mut turns: u64 = 1000000000;
-    while turns > 0 && t.go {
-        t = step(fd, t, entries);
-        turns -= 1;
-    }
-}
-
-// What was counted in the files of whole surfaces, and how many entries eta and k have.
-struct Tally2 {
-    tally: Tally,
-    eta: usize,
-    k: usize,
-}
-
-// The answer's record: a bounce is 990.
-fn same_surface(fd: i32, number: u64, w: &[f64; 30], eta: &[f64], k: &[f64]) -> bool {
+// Whether the libraries' answer is the record's. A spectrum of numbers is in the place of eta.
+fn same(fd: i32, number: u64, w: &[f64; 30], eta: &[f64], k: &[f64]) -> bool {
     if number == 990 {
         return bounces::replay(fd, w, eta, k);
     }
     if number > 930 {
         return surfaces::replay(fd, number, w, eta, k);
     }
-    facets::replay(fd, number, w)
+    match number / 100 {
+        1 => floats::replay(fd, number, w),
+        2 => vectors2::replay(fd, number, w),
+        3 => vectors3::replay(fd, number, w),
+        4 => complexes::replay(fd, number, w),
+        5 => bases::replay(fd, number, w),
+        6 => angles::replay(fd, number, w),
+        7 => spectra::replay(fd, number, w, eta),
+        8 => checked::replay(fd, number, w, eta),
+        _ => facets::replay(fd, number, w),
+    }
 }
 
-// Reads what follows the head of a record, and answers the tally with it.
-fn surface_after(fd: i32, t: Tally2, number: u64, ins: u64, eta: &[f64], k: &[f64]) -> Tally2 {
-    let mut w = [0.0; 30];
-    record::read_entries(fd, ins, &mut w);
-    let n = t.eta;
-    let m = t.k;
-    let same = same_surface(fd, number, &w, record::first(eta, n), record::first(k, m));
-    record::line_end(fd);
-    let tally = counted(t.tally, same);
-    Tally2 {
-        tally: tally,
-        eta: n,
-        k: m,
+fn family_of(number: u64) -> u64 {
+    if number == 990 {
+        return 10;
     }
+    number / 100
+}
+
+// A tally of the family, which a new family begins anew.
+fn of_family(mut t: Tally, family: u64) -> Tally {
+    if t.family == family {
+        return t;
+    }
+    if 0 < t.records {
+        print_counts(t);
+    }
+    t.family = family;
+    t.records = 0;
+    t.differences = 0;
+    t
+}
+
+// One record more.
+fn counted(mut t: Tally, same: bool) -> Tally {
+    t.records = next(t.records);
+    if same {
+        return t;
+    }
+    print_difference(t.line);
+    t.differences = next(t.differences);
+    t
 }
 
 // A record that has the entries of a spectrum, or the one value of 95; how many there are.
-fn read_spectrum(fd: i32, number: u64, ins: u64, values: &mut [f64]) -> usize {
-    if number % 10 == 1 {
+fn read_spectrum(fd: i32, head: Head, values: &mut [f64]) -> usize {
+    if head.number % 10 == 1 {
         record::read_constant(fd, values);
-        record::line_end(fd);
         return 95;
     }
-    record::read_entries(fd, ins, values);
-    record::line_end(fd);
-    (ins % 256) as usize
+    record::read_entries(fd, head.ins, values);
+    (head.ins % 256) as usize
 }
 
-// The tally where the next records are about spectra of `eta` and `k` entries.
-fn with_spectra(t: Tally, eta: usize, k: usize) -> Tally2 {
-    let tally = with_entries(t, 0);
-    Tally2 {
-        tally: tally,
-        eta: eta,
-        k: k,
+fn is_eta(number: u64) -> bool {
+    number == 700 || number == 800 || number / 10 == 97
+}
+
+// Reads what follows the head of a record, and answers the tally with it.
+fn step_after(fd: i32, mut t: Tally, head: Head, eta: &mut [f64], k: &mut [f64]) -> Tally {
+    if is_eta(head.number) {
+        t.eta = read_spectrum(fd, head, eta);
+        return t;
     }
+    if head.number / 10 == 98 {
+        t.k = read_spectrum(fd, head, k);
+        return t;
+    }
+    let mut w = [0.0; 30];
+    record::read_entries(fd, head.ins, &mut w);
+    let n = t.eta;
+    let m = t.k;
+    let now = of_family(t, family_of(head.number));
+    let same = same(
+        fd,
+        head.number,
+        &w,
+        record::first(eta, n),
+        record::first(k, m),
+    );
+    counted(now, same)
 }
 
 // Reads a record, and answers the tally with it; at the end of the file one that doesn't go on.
-fn surface_step(fd: i32, t: Tally2, family: u64, eta: &mut [f64], k: &mut [f64]) -> Tally2 {
+fn step(fd: i32, mut t: Tally, eta: &mut [f64], k: &mut [f64]) -> Tally {
     let head = record::read_head(fd);
     if !head.there {
-        print_counts(t.tally);
-        return Tally2 {
-            tally: begun(family, false),
-            eta: 0,
-            k: 0,
-        };
+        print_counts(t);
+        t.go = false;
+        return t;
     }
-    let n = t.eta;
-    let m = t.k;
-    if head.number / 10 == 97 {
-        let now = read_spectrum(fd, head.number, head.ins, eta);
-        return with_spectra(t.tally, now, m);
-    }
-    if head.number / 10 == 98 {
-        let now = read_spectrum(fd, head.number, head.ins, k);
-        return with_spectra(t.tally, n, now);
-    }
-    surface_after(fd, t, head.number, head.ins, eta, k)
+    t.line = next(t.line);
+    let now = step_after(fd, t, head, eta, k);
+    record::line_end(fd);
+    now
 }
 
-fn begun(family: u64, go: bool) -> Tally {
-    Tally {
-        go: go,
-        entries: 0,
-        family: family,
-        line: 1,
+// A proved loop has to end, so it counts its turns.
+fn replay(fd: i32, eta: &mut [f64], k: &mut [f64]) {
+    let mut t = Tally {
+        go: true,
+        family: 0,
+        line: 0,
         records: 0,
         differences: 0,
-    }
-}
-
-fn replay_surfaces(fd: i32, family: u64, eta: &mut [f64], k: &mut [f64]) {
-    let mut t = Tally2 {
-        tally: begun(family, true),
         eta: 0,
         k: 0,
     };
     let mut turns: u64 = 1000000000;
-    while turns > 0 && t.tally.go {
-        t = surface_step(fd, t, family, eta, k);
+    while turns > 0 && t.go {
+        t = step(fd, t, eta, k);
         turns -= 1;
     }
 }
 
-fn numbers_file() {
-    let fd = os::open_read(b"numbers.hex");
+fn replay_file(name: &[u8]) {
+    let fd = os::open_read(name);
     if fd < 0 {
-        os::fail(b"numbers.hex");
+        os::fail(name);
         return;
     }
-    let mut entries = [0.0; 100];
-    replay(fd, &mut entries);
-    libc::close(fd);
-}
-
-fn surfaces_file(fd: i32, family: u64) {
     let mut eta = [0.0; 100];
     let mut k = [0.0; 100];
-    replay_surfaces(fd, family, &mut eta, &mut k);
+    replay(fd, &mut eta, &mut k);
     libc::close(fd);
-}
-
-fn optics_file() {
-    let fd = os::open_read(b"optics.hex");
-    if fd < 0 {
-        os::fail(b"optics.hex");
-        return;
-    }
-    surfaces_file(fd, 9);
-}
-
-fn path_file() {
-    let fd = os::open_read(b"path.hex");
-    if fd < 0 {
-        os::fail(b"path.hex");
-        return;
-    }
-    surfaces_file(fd, 10);
 }
 
 fn main() {
-    numbers_file();
-    optics_file();
-    path_file();
+    replay_file(b"numbers.hex");
+    replay_file(b"optics.hex");
+    replay_file(b"path.hex");
 }

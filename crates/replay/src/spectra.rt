@@ -1,18 +1,18 @@
 // Spectra. The record 700 has the entries for those after it.
-use crate::record::Answer;
-use crate::record::Words;
+use crate::words::same_bool;
+use crate::words::same_float;
 use numbers::dense_spectrum;
 use numbers::dense_spectrum::DenseSpectrum;
 
-// The answer of the function `number`, and nothing for another number.
-pub fn replay(number: u64, w: Words, values: &[f64]) -> Answer {
+// Whether the answer of the function `number` is the record's.
+pub fn replay(fd: i32, number: u64, w: &[f64; 30], values: &[f64]) -> bool {
     match number {
-        701 => Answer::of_float(DenseSpectrum::sample_one(values, w.a)),
-        702 => Answer::of_bool(DenseSpectrum::is_constant(values)),
-        703 => Answer::of_bool(dense_spectrum::all_within(values, w.a, w.b)),
-        704 => Answer::of_bool(dense_spectrum::all_finite(values)),
-        705 => Answer::of_bool(dense_spectrum::is_wavelength(w.a)),
-        706 => Answer::of_bool(dense_spectrum::is_lookup_wavelength(w.a)),
-        _ => Answer::none(),
+        701 => same_float(fd, DenseSpectrum::sample_one(values, w[0])),
+        702 => same_bool(fd, DenseSpectrum::is_constant(values)),
+        703 => same_bool(fd, dense_spectrum::all_within(values, w[0], w[1])),
+        704 => same_bool(fd, dense_spectrum::all_finite(values)),
+        705 => same_bool(fd, dense_spectrum::is_wavelength(w[0])),
+        706 => same_bool(fd, dense_spectrum::is_lookup_wavelength(w[0])),
+        _ => false,
     }
 }

@@ -1,28 +1,21 @@
 // Functions of a whole surface, and the calls of optics that refuse. The records 970 and 980 have the
 // entries of eta and of k for those after them, 971 and 981 the one value of 95 entries.
 use crate::words;
+use crate::words::same_bool_answer;
+use crate::words::same_direction;
+use crate::words::same_float_answer;
+use numbers::vec2::Vec2;
 use numbers::vec3::Vec3;
 use optics::checked;
 use optics::checked::ColorAnswer;
-use optics::checked::ReflectAnswer;
-use optics::checked::RefractAnswer;
 use optics::checked::SurfaceAnswer;
 use optics::microfacet;
 use optics::microfacet::Kind;
+use rulvimba::records;
 
 fn same_color_answer(fd: i32, answer: ColorAnswer) -> bool {
-    match answer {
-        ColorAnswer::Refused(why) => {
-            let n = words::same_number(fd, why.number());
-            let v = words::same_color(fd, words::zero4());
-            n && v
-        }
-        ColorAnswer::Given(a) => {
-            let n = words::same_number(fd, 0);
-            let v = words::same_color(fd, a);
-            n && v
-        }
-    }
+    let r = records::of_color(answer);
+    words::same_number(fd, r.number) & words::same_color(fd, r.value)
 }
 
 fn is_glass(kind: Kind) -> bool {
@@ -32,71 +25,38 @@ fn is_glass(kind: Kind) -> bool {
     }
 }
 
+// Document 01's number, whether the surface is glass, and its roughness.
+fn same_made(fd: i32, number: u64, glass: bool, roughness: Vec2) -> bool {
+    words::same_number(fd, number) & words::same_bool(fd, glass) & words::same_vec2(fd, roughness)
+}
+
 fn same_surface_answer(fd: i32, answer: SurfaceAnswer) -> bool {
     match answer {
-        SurfaceAnswer::Refused(why) => {
-            let n = words::same_number(fd, why.number());
-            let g = words::same_bool(fd, false);
-            let x = words::same_float(fd, 0.0);
-            let y = words::same_float(fd, 0.0);
-            n && g && x && y
-        }
+        SurfaceAnswer::Refused(why) => same_made(fd, why.number(), false, Vec2::splat(0.0)),
         SurfaceAnswer::Given(s) => {
             let kind = s.kind;
-            let roughness = s.roughness;
-            let n = words::same_number(fd, 0);
-            let g = words::same_bool(fd, is_glass(kind));
-            let x = words::same_float(fd, roughness.x);
-            let y = words::same_float(fd, roughness.y);
-            n && g && x && y
+            same_made(fd, 0, is_glass(kind), s.roughness)
         }
-    }
-}
-
-fn same_case(fd: i32, number: u64, case: u64, wi: Vec3) -> bool {
-    let n = words::same_number(fd, number);
-    let c = words::same_number(fd, case);
-    let v = words::same_vec3(fd, wi);
-    n && c && v
-}
-
-fn same_reflect_answer(fd: i32, answer: ReflectAnswer) -> bool {
-    match answer {
-        ReflectAnswer::Refused(why) => same_case(fd, why.number(), 0, words::zero3()),
-        ReflectAnswer::Direction(wi) => same_case(fd, 0, 0, wi),
-        ReflectAnswer::None => same_case(fd, 0, 1, words::zero3()),
-    }
-}
-
-fn same_refract_answer(fd: i32, answer: RefractAnswer) -> bool {
-    match answer {
-        RefractAnswer::Refused(why) => same_case(fd, why.number(), 0, words::zero3()),
-        RefractAnswer::Direction(wi) => same_case(fd, 0, 0, wi),
-        RefractAnswer::None => same_case(fd, 0, 1, words::zero3()),
-        RefractAnswer::Total => same_case(fd, 0, 2, words::zero3()),
     }
 }
 
 // Whether the answer of the function `number` is the record's.
 pub fn replay(fd: i32, number: u64, w: &[f64; 30], eta: &[f64], k: &[f64]) -> bool {
     let s = words::surface(w);
-    let v = words::vec3(w[3], w[4], w[5]);
-    let u = words::vec3(w[6], w[7], w[8]);
+    let v = Vec3::new(w[3], w[4], w[5]);
+    let u = Vec3::new(w[6], w[7], w[8]);
     match number {
-        951 => words::same_bool_answer(fd, checked::is_delta(s, eta, k)),
-        952 => words::same_float_answer(fd, checked::lambda(s, eta, k, v)),
-        953 => words::same_bool_answer(fd, checked::chi_pass(s, eta, k, v, u)),
-        954 => words::same_float_answer(fd, checked::g1(s, eta, k, v, u)),
+        951 => same_bool_answer(fd, checked::is_delta(s, eta, k)),
+        952 => same_float_answer(fd, checked::lambda(s, eta, k, v)),
+        953 => same_bool_answer(fd, checked::chi_pass(s, eta, k, v, u)),
+        954 => same_float_answer(fd, checked::g1(s, eta, k, v, u)),
         955 => {
-            let wh = words::vec3(w[9], w[10], w[11]);
-            words::same_float_answer(fd, checked::g(s, eta, k, v, u, wh))
+            let wh = Vec3::new(w[9], w[10], w[11]);
+            same_float_answer(fd, checked::g(s, eta, k, v, u, wh))
         }
-        956 => words::same_float_answer(fd, checked::d(s, eta, k, v)),
-        957 => {
-            let f = checked::disney_diffuse(s, eta, k, w[3], w[4], w[5]);
-            words::same_float_answer(fd, f)
-        }
-        958 => words::same_float_answer(fd, checked::f_at(s, eta, k, v, u, w[9])),
+        956 => same_float_answer(fd, checked::d(s, eta, k, v)),
+        957 => same_float_answer(fd, checked::disney_diffuse(s, eta, k, w[3], w[4], w[5])),
+        958 => same_float_answer(fd, checked::f_at(s, eta, k, v, u, w[9])),
         959 => {
             let wls = words::color(w[9], w[10], w[11], w[12]);
             same_color_answer(fd, checked::f(s, eta, k, v, u, wls))
@@ -107,15 +67,15 @@ pub fn replay(fd: i32, number: u64, w: &[f64; 30], eta: &[f64], k: &[f64]) -> bo
         }
         961 => {
             let reflection = words::is_true(w[9]);
-            words::same_float_answer(fd, checked::pdf(s, eta, k, v, u, reflection, w[10]))
+            same_float_answer(fd, checked::pdf(s, eta, k, v, u, reflection, w[10]))
         }
         _ => replay2(fd, number, w, eta, k),
     }
 }
 
 fn replay2(fd: i32, number: u64, w: &[f64; 30], eta: &[f64], k: &[f64]) -> bool {
-    let v = words::vec3(w[3], w[4], w[5]);
-    let u = words::vec3(w[6], w[7], w[8]);
+    let v = Vec3::new(w[3], w[4], w[5]);
+    let u = Vec3::new(w[6], w[7], w[8]);
     match number {
         931 => words::same_bool(fd, microfacet::constant_eta(eta)),
         932 => words::same_float(fd, microfacet::eta_at(eta, w[3])),
@@ -125,17 +85,14 @@ fn replay2(fd: i32, number: u64, w: &[f64; 30], eta: &[f64], k: &[f64]) -> bool 
             words::same_color(fd, microfacet::f(eta, k, v, u, wls))
         }
         962 => {
-            let s = words::surface(w);
-            let kind = s.kind;
-            same_surface_answer(fd, checked::make_surface(kind, w[1], eta, k))
+            let made = checked::make_surface(words::kind(w[0]), w[1], eta, k);
+            same_surface_answer(fd, made)
         }
-        963 => same_reflect_answer(fd, checked::reflect(v, u)),
+        963 => same_direction(fd, records::of_reflect(checked::reflect(v, u))),
         964 => {
-            let wo = words::vec3(w[4], w[5], w[6]);
-            same_refract_answer(
-                fd,
-                checked::refract(w[3], wo, words::vec3(w[7], w[8], w[9])),
-            )
+            let wo = Vec3::new(w[4], w[5], w[6]);
+            let n = Vec3::new(w[7], w[8], w[9]);
+            same_direction(fd, records::of_refract(checked::refract(w[3], wo, n)))
         }
         _ => false,
     }

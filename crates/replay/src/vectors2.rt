@@ -1,37 +1,41 @@
 // Vectors of two floats.
-use crate::record::Answer;
-use crate::record::Words;
+use crate::words::same_float;
+use crate::words::same_vec2;
+use crate::words::same_vec3;
 use numbers::vec2::Vec2;
 
-// The answer of the function `number`, and nothing for another number.
-pub fn replay(number: u64, w: Words) -> Answer {
+// Whether the answer of the function `number` is the record's.
+pub fn replay(fd: i32, number: u64, w: &[f64; 30]) -> bool {
+    let a = Vec2 { x: w[0], y: w[1] };
+    let b = Vec2 { x: w[2], y: w[3] };
     match number {
-        201 => Answer::of_vec2(Vec2::new(w.a, w.b)),
-        202 => Answer::of_vec2(Vec2::splat(w.a)),
-        203 => Answer::of_vec3(Vec2::extend(w.ab(), w.c)),
-        204 => Answer::of_float(Vec2::dot(w.ab(), w.cd())),
-        205 => Answer::of_vec2(Vec2::abs(w.ab())),
-        206 => Answer::of_vec2(Vec2::min(w.ab(), w.cd())),
-        207 => Answer::of_vec2(Vec2::max(w.ab(), w.cd())),
-        208 => Answer::of_vec2(Vec2::negate(w.ab())),
-        209 => Answer::of_vec2(Vec2::add(w.ab(), w.cd())),
-        210 => Answer::of_vec2(Vec2::sub(w.ab(), w.cd())),
-        211 => Answer::of_vec2(Vec2::mul(w.ab(), w.cd())),
-        212 => Answer::of_vec2(Vec2::div(w.ab(), w.cd())),
-        213 => Answer::of_vec2(Vec2::add_float(w.ab(), w.c)),
-        214 => Answer::of_vec2(Vec2::sub_float(w.ab(), w.c)),
-        215 => Answer::of_vec2(Vec2::mul_float(w.ab(), w.c)),
-        216 => Answer::of_vec2(Vec2::div_float(w.ab(), w.c)),
-        _ => replay2(number, w),
+        201 => same_vec2(fd, Vec2::new(w[0], w[1])),
+        202 => same_vec2(fd, Vec2::splat(w[0])),
+        203 => same_vec3(fd, Vec2::extend(a, w[2])),
+        204 => same_float(fd, Vec2::dot(a, b)),
+        205 => same_vec2(fd, Vec2::abs(a)),
+        206 => same_vec2(fd, Vec2::min(a, b)),
+        207 => same_vec2(fd, Vec2::max(a, b)),
+        208 => same_vec2(fd, Vec2::negate(a)),
+        209 => same_vec2(fd, Vec2::add(a, b)),
+        210 => same_vec2(fd, Vec2::sub(a, b)),
+        211 => same_vec2(fd, Vec2::mul(a, b)),
+        212 => same_vec2(fd, Vec2::div(a, b)),
+        213 => same_vec2(fd, Vec2::add_float(a, w[2])),
+        214 => same_vec2(fd, Vec2::sub_float(a, w[2])),
+        215 => same_vec2(fd, Vec2::mul_float(a, w[2])),
+        216 => same_vec2(fd, Vec2::div_float(a, w[2])),
+        _ => replay2(fd, number, w),
     }
 }
 
-fn replay2(number: u64, w: Words) -> Answer {
+fn replay2(fd: i32, number: u64, w: &[f64; 30]) -> bool {
+    let c = Vec2 { x: w[1], y: w[2] };
     match number {
-        217 => Answer::of_vec2(Vec2::float_add(w.a, w.bc())),
-        218 => Answer::of_vec2(Vec2::float_sub(w.a, w.bc())),
-        219 => Answer::of_vec2(Vec2::float_mul(w.a, w.bc())),
-        220 => Answer::of_vec2(Vec2::float_div(w.a, w.bc())),
-        _ => Answer::none(),
+        217 => same_vec2(fd, Vec2::float_add(w[0], c)),
+        218 => same_vec2(fd, Vec2::float_sub(w[0], c)),
+        219 => same_vec2(fd, Vec2::float_mul(w[0], c)),
+        220 => same_vec2(fd, Vec2::float_div(w[0], c)),
+        _ => false,
     }
 }

@@ -1,49 +1,56 @@
 // Vectors of three floats.
-use crate::record::Answer;
-use crate::record::Words;
+use crate::words::same_bool;
+use crate::words::same_float;
+use crate::words::same_vec2;
+use crate::words::same_vec3;
 use numbers::vec3::Vec3;
 
-// The answer of the function `number`, and nothing for another number.
-pub fn replay(number: u64, w: Words) -> Answer {
+// Whether the answer of the function `number` is the record's.
+pub fn replay(fd: i32, number: u64, w: &[f64; 30]) -> bool {
+    let a = Vec3::new(w[0], w[1], w[2]);
+    let b = Vec3::new(w[3], w[4], w[5]);
     match number {
-        301 => Answer::of_vec3(Vec3::new(w.a, w.b, w.c)),
-        302 => Answer::of_vec3(Vec3::splat(w.a)),
-        303 => Answer::of_vec2(Vec3::truncate(w.abc())),
-        304 => Answer::of_float(Vec3::length(w.abc())),
-        305 => Answer::of_float(Vec3::length_squared(w.abc())),
-        306 => Answer::of_float(Vec3::distance(w.abc(), w.def())),
-        307 => Answer::of_float(Vec3::distance_squared(w.abc(), w.def())),
-        308 => Answer::of_vec3(Vec3::scale(w.abc(), w.d)),
-        309 => Answer::of_vec3(Vec3::cross(w.abc(), w.def())),
-        310 => Answer::of_float(Vec3::dot(w.abc(), w.def())),
-        311 => Answer::of_vec3(Vec3::project_onto(w.abc(), w.def())),
-        312 => Answer::of_vec3(Vec3::normalize(w.abc())),
-        313 => Answer::of_bool(Vec3::is_normalized(w.abc())),
-        314 => Answer::of_bool(Vec3::is_direction(w.abc())),
-        315 => Answer::of_float(Vec3::min_element(w.abc())),
-        316 => Answer::of_float(Vec3::max_element(w.abc())),
-        _ => replay2(number, w),
+        301 => same_vec3(fd, a),
+        302 => same_vec3(fd, Vec3::splat(w[0])),
+        303 => same_vec2(fd, Vec3::truncate(a)),
+        304 => same_float(fd, Vec3::length(a)),
+        305 => same_float(fd, Vec3::length_squared(a)),
+        306 => same_float(fd, Vec3::distance(a, b)),
+        307 => same_float(fd, Vec3::distance_squared(a, b)),
+        308 => same_vec3(fd, Vec3::scale(a, w[3])),
+        309 => same_vec3(fd, Vec3::cross(a, b)),
+        310 => same_float(fd, Vec3::dot(a, b)),
+        311 => same_vec3(fd, Vec3::project_onto(a, b)),
+        312 => same_vec3(fd, Vec3::normalize(a)),
+        313 => same_bool(fd, Vec3::is_normalized(a)),
+        314 => same_bool(fd, Vec3::is_direction(a)),
+        315 => same_float(fd, Vec3::min_element(a)),
+        316 => same_float(fd, Vec3::max_element(a)),
+        _ => replay2(fd, number, w),
     }
 }
 
-fn replay2(number: u64, w: Words) -> Answer {
+fn replay2(fd: i32, number: u64, w: &[f64; 30]) -> bool {
+    let a = Vec3::new(w[0], w[1], w[2]);
+    let b = Vec3::new(w[3], w[4], w[5]);
+    let c = Vec3::new(w[1], w[2], w[3]);
     match number {
-        317 => Answer::of_vec3(Vec3::abs(w.abc())),
-        318 => Answer::of_vec3(Vec3::min(w.abc(), w.def())),
-        319 => Answer::of_vec3(Vec3::max(w.abc(), w.def())),
-        320 => Answer::of_vec3(Vec3::negate(w.abc())),
-        321 => Answer::of_vec3(Vec3::add(w.abc(), w.def())),
-        322 => Answer::of_vec3(Vec3::sub(w.abc(), w.def())),
-        323 => Answer::of_vec3(Vec3::mul(w.abc(), w.def())),
-        324 => Answer::of_vec3(Vec3::div(w.abc(), w.def())),
-        325 => Answer::of_vec3(Vec3::add_float(w.abc(), w.d)),
-        326 => Answer::of_vec3(Vec3::sub_float(w.abc(), w.d)),
-        327 => Answer::of_vec3(Vec3::mul_float(w.abc(), w.d)),
-        328 => Answer::of_vec3(Vec3::div_float(w.abc(), w.d)),
-        329 => Answer::of_vec3(Vec3::float_add(w.a, w.bcd())),
-        330 => Answer::of_vec3(Vec3::float_sub(w.a, w.bcd())),
-        331 => Answer::of_vec3(Vec3::float_mul(w.a, w.bcd())),
-        332 => Answer::of_vec3(Vec3::float_div(w.a, w.bcd())),
-        _ => Answer::none(),
+        317 => same_vec3(fd, Vec3::abs(a)),
+        318 => same_vec3(fd, Vec3::min(a, b)),
+        319 => same_vec3(fd, Vec3::max(a, b)),
+        320 => same_vec3(fd, Vec3::negate(a)),
+        321 => same_vec3(fd, Vec3::add(a, b)),
+        322 => same_vec3(fd, Vec3::sub(a, b)),
+        323 => same_vec3(fd, Vec3::mul(a, b)),
+        324 => same_vec3(fd, Vec3::div(a, b)),
+        325 => same_vec3(fd, Vec3::add_float(a, w[3])),
+        326 => same_vec3(fd, Vec3::sub_float(a, w[3])),
+        327 => same_vec3(fd, Vec3::mul_float(a, w[3])),
+        328 => same_vec3(fd, Vec3::div_float(a, w[3])),
+        329 => same_vec3(fd, Vec3::float_add(w[0], c)),
+        330 => same_vec3(fd, Vec3::float_sub(w[0], c)),
+        331 => same_vec3(fd, Vec3::float_mul(w[0], c)),
+        332 => same_vec3(fd, Vec3::float_div(w[0], c)),
+        _ => false,
     }
 }

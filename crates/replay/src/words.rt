@@ -3,22 +3,23 @@ use crate::record;
 use numbers::checked::BoolAnswer;
 use numbers::checked::FloatAnswer;
 use numbers::checked::Vec3Answer;
+use numbers::complex::Complex;
+use numbers::onb::Onb;
 use numbers::vec2::Vec2;
 use numbers::vec3::Vec3;
 use optics::color::Color;
-use optics::microfacet::Ggx;
 use optics::microfacet::Kind;
 use optics::microfacet::Surface;
+use rulvimba::records;
+use rulvimba::records::DirectionResult;
 
-// The most words that go in.
-pub const MOST: usize = 30;
-
+// ---- in
 pub fn is_true(x: f64) -> bool {
     x != 0.0
 }
 
-fn kind(glass: bool) -> Kind {
-    if glass {
+pub fn kind(glass: f64) -> Kind {
+    if is_true(glass) {
         return Kind::Glass;
     }
     Kind::Metal
@@ -26,118 +27,69 @@ fn kind(glass: bool) -> Kind {
 
 // The surface of the first three words: whether it is glass, and its roughness.
 pub fn surface(w: &[f64; 30]) -> Surface {
-    let kind = kind(is_true(w[0]));
+    let kind = kind(w[0]);
     Surface {
-        kind: kind,
+        kind,
         roughness: Vec2 { x: w[1], y: w[2] },
     }
 }
 
-// Facets of the roughness.
-pub fn rough(x: f64, y: f64) -> Ggx {
-    Ggx {
-        roughness: Vec2 { x: x, y: y },
-    }
+pub fn color(s0: f64, s1: f64, s2: f64, s3: f64) -> Color {
+    Color { s0, s1, s2, s3 }
 }
 
-pub fn vec3(x: f64, y: f64, z: f64) -> Vec3 {
-    Vec3 { x: x, y: y, z: z }
-}
-
-pub fn color(a: f64, b: f64, c: f64, d: f64) -> Color {
-    Color {
-        s0: a,
-        s1: b,
-        s2: c,
-        s3: d,
-    }
-}
-
-// Whether the record's next words are these.
+// ---- out: whether the record's next words are these. Each is read, whatever those before it were.
 pub fn same_number(fd: i32, n: u64) -> bool {
     record::word(fd) == n
 }
 
-pub fn same_float(fd: i32, x: f64) -> bool {
-    record::word(fd) == record::bits(x)
-}
-
-fn of_bool(b: bool) -> u64 {
-    if b {
-        return 1;
-    }
-    0
-}
-
 pub fn same_bool(fd: i32, b: bool) -> bool {
-    record::word(fd) == of_bool(b)
+    same_number(fd, b as u64)
+}
+
+pub fn same_float(fd: i32, x: f64) -> bool {
+    same_number(fd, record::bits(x))
+}
+
+pub fn same_vec2(fd: i32, v: Vec2) -> bool {
+    same_float(fd, v.x) & same_float(fd, v.y)
 }
 
 pub fn same_vec3(fd: i32, v: Vec3) -> bool {
-    let x = same_float(fd, v.x);
-    let y = same_float(fd, v.y);
-    let z = same_float(fd, v.z);
-    x && y && z
+    same_float(fd, v.x) & same_float(fd, v.y) & same_float(fd, v.z)
+}
+
+pub fn same_complex(fd: i32, z: Complex) -> bool {
+    same_float(fd, z.Re) & same_float(fd, z.Im)
+}
+
+pub fn same_basis(fd: i32, b: Onb) -> bool {
+    same_vec3(fd, b.u) & same_vec3(fd, b.v) & same_vec3(fd, b.w)
 }
 
 pub fn same_color(fd: i32, a: Color) -> bool {
-    let s0 = same_float(fd, a.s0);
-    let s1 = same_float(fd, a.s1);
-    let s2 = same_float(fd, a.s2);
-    let s3 = same_float(fd, a.s3);
-    s0 && s1 && s2 && s3
+    same_float(fd, a.s0) & same_float(fd, a.s1) & same_float(fd, a.s2) & same_float(fd, a.s3)
 }
 
-pub fn zero3() -> Vec3 {
-    vec3(0.0, 0.0, 0.0)
-}
-
-pub fn zero4() -> Color {
-    color(0.0, 0.0, 0.0, 0.0)
-}
-
-// An answer that may be a refusal: document 01's number, 0 where a value is given, and the value.
+// ---- answers that may be a refusal: document 01's number, 0 where a value is given, and the value
 pub fn same_float_answer(fd: i32, answer: FloatAnswer) -> bool {
-    match answer {
-        FloatAnswer::Refused(why) => {
-            let n = same_number(fd, why.number());
-            let v = same_float(fd, 0.0);
-            n && v
-        }
-        FloatAnswer::Given(x) => {
-            let n = same_number(fd, 0);
-            let v = same_float(fd, x);
-            n && v
-        }
-    }
+    let r = records::of_float(answer);
+    same_number(fd, r.number) & same_float(fd, r.value)
+}
+
+pub fn same_vec3_answer(fd: i32, answer: Vec3Answer) -> bool {
+    let r = records::of_vec3(answer);
+    same_number(fd, r.number) & same_vec3(fd, r.value)
 }
 
 pub fn same_bool_answer(fd: i32, answer: BoolAnswer) -> bool {
     match answer {
-        BoolAnswer::Refused(why) => {
-            let n = same_number(fd, why.number());
-            let v = same_bool(fd, false);
-            n && v
-        }
-        BoolAnswer::Given(b) => {
-            let n = same_number(fd, 0);
-            let v = same_bool(fd, b);
-            n && v
-        }
+        BoolAnswer::Refused(why) => same_number(fd, why.number()) & same_bool(fd, false),
+        BoolAnswer::Given(b) => same_number(fd, 0) & same_bool(fd, b),
     }
 }
 
-pub fn same_vec3_answer(fd: i32, answer: Vec3Answer) -> bool {
-    match answer {
-        Vec3Answer::Refused(why) => {
-            let n = same_number(fd, why.number());
-            let v = same_vec3(fd, zero3());
-            n && v
-        }
-        Vec3Answer::Given(w) => {
-            let n = same_number(fd, 0);
-            let v = same_vec3(fd, w);
-            n && v
-        }
-    }
+// A mirror's or a bend's.
+pub fn same_direction(fd: i32, r: DirectionResult) -> bool {
+    same_number(fd, r.number) & same_number(fd, r.outcome) & same_vec3(fd, r.direction)
 }

@@ -1,4 +1,4 @@
--- `replay` is safe and ends: the measure is the number of turns that are left, and a turn leaves the number of entries as it is.
+-- `replay` is safe and ends: the measure is the number of turns that are left, and a turn leaves the numbers of entries as they are.
 use mathlib.Core.Path.{_≡_, refl, _∙_}
 use Prim.Native.Nat.{ℕ}
 use lib.ListN.{length}
@@ -8,22 +8,31 @@ use Rattle.replay.proofs.replay.Statement.{statement}
 use Rattle.replay.proofs.replay.Tie as tie
 
 abbrev Inv-loop : tie.InvT-loop
-Inv-loop fd entries₀ t₀ turns₀ entries t turns = length entries ≡ length entries₀
+Inv-loop fd eta₀ k₀ t₀ turns₀ eta k t turns = (length eta ≡ length eta₀) × (length k ≡ length k₀)
 
 abbrev μ-loop : tie.MeasureT-loop
-μ-loop fd entries₀ t₀ turns₀ entries t turns = turns
+μ-loop fd eta₀ k₀ t₀ turns₀ eta k t turns = turns
+
+loop-holds : tie.Need-loop-holds Inv-loop μ-loop
+loop-holds c = (refl, refl)
 
 loop-again : tie.Need-loop-again Inv-loop μ-loop
-loop-again c = search (needs, c .before .before .before .before .before .before .loop .inv)
+loop-again c = (search (needs, c .before .before .before .before .before .before .before .before .before .loop .inv .0), search (needs, c .before .before .before .before .before .before .before .before .before .loop .inv .1))
 
 same-length : tie.Need-same-length Inv-loop μ-loop
-same-length c = c .before .before .loop .inv
+same-length c = c .before .before .loop .inv .0
 
 same-length-2 : tie.Need-same-length-2 Inv-loop μ-loop
-same-length-2 c = c .before .loop .inv
+same-length-2 c = c .before .before .loop .inv .1
+
+same-length-3 : tie.Need-same-length-3 Inv-loop μ-loop
+same-length-3 c = c .before .loop .inv .0
+
+same-length-4 : tie.Need-same-length-4 Inv-loop μ-loop
+same-length-4 c = c .before .loop .inv .1
 
 pub replay-spec : {M : Type 1} → statement M
 replay-spec =
     tie.close
-    (tie.spec Inv-loop μ-loop (λ c. refl) (λ c κs. tt) (λ c. omega arith) (λ c. omega arith) loop-again same-length (λ c. tt) same-length-2
-    (λ c. tt))
+    (tie.spec Inv-loop μ-loop loop-holds (λ c κs. tt) (λ c. omega arith) (λ c. omega arith) loop-again same-length same-length-2
+    (λ c. tt) same-length-3 same-length-4 (λ c. tt))

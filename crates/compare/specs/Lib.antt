@@ -1,2 +1,0 @@
--- What the contracts of the crate cite: definitions only.
-pub mod Results
