@@ -1,15 +1,23 @@
 // The commands of a job. Each reads its line, calls the model and puts one line of answer behind the
-// first `n` bytes of `out`; it answers how many bytes are used then.
+// first `n` bytes of `out`; it answers how many bytes are used then, and what the answer is.
 use crate::line;
 use crate::line::Cursor;
 use crate::line::Fault;
 use crate::output;
+use crate::sizes;
 use crate::store;
+use crate::tally::Answered;
+use crate::tally::Outcome;
 use numbers::checked::FloatAnswer;
 use numbers::refusal::Refusal;
 use numbers::vec3::Vec3;
+use optics::bxdf::dielectric;
 use optics::checked;
 use optics::checked::SurfaceAnswer;
+use optics::microfacet;
+use optics::microfacet::Ggx;
+use optics::microfacet::Kind;
+use optics::microfacet::Surface;
 use path::bsdf;
 use path::records::Bounce;
 use path::records::Bounced;
@@ -17,50 +25,98 @@ use path::records::Density;
 use path::records::Path;
 use path::records::Shares;
 use path::records::Started;
-ghost use Prim.Native.Nat.{_≤_};
+ghost use mathlib.Core.Path.{_≡_};
+ghost use Rattle.optics.specs.Surface.{microsurface};
+ghost use Rattle.path.specs.Answer.{outcome, bounce, pathOf};
+ghost use Rattle.rays.specs.Store.{pathIn, keepPath};
 
 // ---- answers
+fn answered(used: usize) -> Answered {
+    Answered {
+        used: used,
+        outcome: Outcome::Answer,
+    }
+}
+
+// A limit of the sizes, at a text's end.
+fn limit_text(out: &mut [u8], n: usize, text: &[u8], last: u64, end: &[u8]) -> usize {
+    let a = output::text(out, n, text);
+    let b = output::decimal(out, a, last);
+    output::text(out, b, end)
+}
 
 // What is wrong with a line.
 fn fault_text(out: &mut [u8], n: usize, fault: Fault) -> usize {
     match fault {
-        Fault::Command => output::text(out, n, b": unknown command\n"),
-        Fault::SurfaceIndex => output::text(out, n, b": a surface's index is from 0 to 63\n"),
-        Fault::PathIndex => output::text(out, n, b": a path's index is from 0 to 1023\n"),
-        Fault::Kind => output::text(out, n, b": a kind is metal or glass\n"),
-        Fault::Flag => output::text(out, n, b": a flag is 0 or 1\n"),
-        Fault::Number => output::text(out, n, b": a number is 16 hexadecimal digits\n"),
-        Fault::Eta => output::text(out, n, b": the word eta is missing\n"),
-        Fault::K => output::text(out, n, b": the word k is missing\n"),
-        Fault::Short => output::text(out, n, b": the line ends too soon\n"),
-        Fault::More => output::text(out, n, b": the line goes on\n"),
-        Fault::NoSurface => output::text(out, n, b": the surface is not made\n"),
-        Fault::NoPath => output::text(out, n, b": the path is not started\n"),
+        Fault::Command => output::text(out, n, b"unknown command\n"),
+        Fault::SurfaceIndex => limit_text(
+            out,
+            n,
+            b"a surface's index is from 0 to ",
+            store::SURFACES - 1,
+            b"\n",
+        ),
+        Fault::PathIndex => limit_text(
+            out,
+            n,
+            b"a path's index is from 0 to ",
+            store::PATHS - 1,
+            b"\n",
+        ),
+        Fault::Kind => output::text(out, n, b"a kind is metal or glass\n"),
+        Fault::Flag => output::text(out, n, b"a flag is 0 or 1\n"),
+        Fault::Number => output::text(
+            out,
+            n,
+            b"a number is the 16 hexadecimal digits of its bits; a decimal is turned into them by rays-csv to-job\n",
+        ),
+        Fault::Eta => output::text(out, n, b"the word eta is missing\n"),
+        Fault::K => output::text(out, n, b"the word k is missing\n"),
+        Fault::Short => output::text(out, n, b"the line ends too soon\n"),
+        Fault::More => output::text(out, n, b"the line goes on\n"),
+        Fault::NoSurface => output::text(out, n, b"the surface is not made\n"),
+        Fault::NoPath => output::text(out, n, b"the path is not started\n"),
     }
 }
 
-// `LINE error WORD: what is wrong`, after the line's number.
-fn fault_at(out: &mut [u8], n: usize, word: u64, fault: Fault) -> usize {
-    let a = output::text(out, n, b" error ");
+// `LINE error word N: what is wrong`, after the line's number.
+fn fault_at(out: &mut [u8], n: usize, word: u64, fault: Fault) -> Answered {
+    let a = output::text(out, n, b" error word ");
     let b = output::decimal(out, a, word);
-    fault_text(out, b, fault)
+    let c = output::text(out, b, b": ");
+    Answered {
+        used: fault_text(out, c, fault),
+        outcome: Outcome::Error,
+    }
 }
 
-fn fault(out: &mut [u8], n: usize, c: Cursor) -> usize {
+fn fault(out: &mut [u8], n: usize, c: Cursor) -> Answered {
     let what = c.fault;
     fault_at(out, n, c.words, what)
 }
 
 // A line that is too long.
-pub fn too_long(out: &mut [u8], n: usize, number: u64) -> usize {
+pub fn too_long(out: &mut [u8], n: usize, number: u64) -> Answered {
     let a = output::decimal(out, n, number);
-    output::text(out, a, b" error 0: a line is at most 4096 bytes\n")
+    Answered {
+        used: limit_text(
+            out,
+            a,
+            b" error line: a line is at most ",
+            sizes::LINE as u64,
+            b" bytes\n",
+        ),
+        outcome: Outcome::Error,
+    }
 }
 
-fn refused(out: &mut [u8], n: usize, why: Refusal) -> usize {
+fn refused(out: &mut [u8], n: usize, why: Refusal) -> Answered {
     let a = output::text(out, n, b" refused ");
     let b = output::decimal(out, a, why.number());
-    output::text(out, b, b"\n")
+    Answered {
+        used: output::text(out, b, b"\n"),
+        outcome: Outcome::Refusal,
+    }
 }
 
 // ` NAME INDEX`, after the line's number.
@@ -69,10 +125,45 @@ fn head(out: &mut [u8], n: usize, name: &[u8], i: u64) -> usize {
     output::decimal(out, a, i)
 }
 
-fn density_text(out: &mut [u8], n: usize, density: Density) -> usize {
+// What a density is on a surface: the probability of the one direction that light is scattered into, or
+// per solid angle.
+enum Measure {
+    Probability,
+    PerSteradian,
+}
+
+fn measure_of(one_direction: bool) -> Measure {
+    if one_direction {
+        return Measure::Probability;
+    }
+    Measure::PerSteradian
+}
+
+fn measure_on(surface: Surface, eta: &[f64], leading: f64) -> Measure {
+    let roughness = surface.roughness;
+    let facets = Ggx {
+        roughness: roughness,
+    };
+    let kind = surface.kind;
+    match kind {
+        Kind::Metal => measure_of(facets.is_delta()),
+        Kind::Glass => measure_of(dielectric::is_smooth(facets, microfacet::eta_at(eta, leading))),
+    }
+}
+
+// A density's number and its measure.
+fn measured(out: &mut [u8], n: usize, x: f64, measure: Measure) -> usize {
+    let a = output::number(out, n, x);
+    match measure {
+        Measure::Probability => output::text(out, a, b" probability"),
+        Measure::PerSteradian => output::text(out, a, b" per-sr"),
+    }
+}
+
+fn density_text(out: &mut [u8], n: usize, density: Density, measure: Measure) -> usize {
     let a = output::text(out, n, b" density");
     match density {
-        Density::Finite(x) => output::number(out, a, x),
+        Density::Finite(x) => measured(out, a, x, measure),
         Density::NotFinite => output::text(out, a, b" not finite"),
     }
 }
@@ -96,18 +187,18 @@ fn path_text(out: &mut [u8], n: usize, path: Path) -> usize {
     output::text(out, d, b"\n")
 }
 
-fn sampled(out: &mut [u8], n: usize, wi: Vec3, density: Density) -> usize {
+fn sampled(out: &mut [u8], n: usize, wi: Vec3, density: Density, measure: Measure) -> usize {
     let a = output::text(out, n, b" wi");
     let b = output::vec3(out, a, wi);
-    density_text(out, b, density)
+    density_text(out, b, density, measure)
 }
 
-fn left(out: &mut [u8], n: usize, shares: Shares, path: Path) -> usize {
+fn left(out: &mut [u8], n: usize, shares: Shares, path: Path) -> Answered {
     let a = shares_text(out, n, shares);
-    path_text(out, a, path)
+    answered(path_text(out, a, path))
 }
 
-fn bounced(out: &mut [u8], n: usize, answer: Bounced) -> usize {
+fn bounced(out: &mut [u8], n: usize, answer: Bounced, measure: Measure) -> Answered {
     match answer {
         Bounced::Refused { why, path: _ } => refused(out, n, why),
         Bounced::Lost { shares, path } => {
@@ -121,7 +212,7 @@ fn bounced(out: &mut [u8], n: usize, answer: Bounced) -> usize {
             path,
         } => {
             let a = output::text(out, n, b" reflected");
-            let b = sampled(out, a, wi, density);
+            let b = sampled(out, a, wi, density, measure);
             left(out, b, shares, path)
         }
         Bounced::Passed {
@@ -131,7 +222,7 @@ fn bounced(out: &mut [u8], n: usize, answer: Bounced) -> usize {
             path,
         } => {
             let a = output::text(out, n, b" passed");
-            let b = sampled(out, a, wi, density);
+            let b = sampled(out, a, wi, density, measure);
             left(out, b, shares, path)
         }
     }
@@ -143,9 +234,29 @@ fn bounced(out: &mut [u8], n: usize, answer: Bounced) -> usize {
 fn spread(values: &mut [f64], count: usize) -> usize {
     if count == 1 {
         store::fill(values);
-        return 95;
+        return sizes::ENTRIES;
     }
     count
+}
+
+// Keeps a surface that was made.
+fn made(
+    surfaces: &mut [f64],
+    kinds: &mut [u64],
+    i: u64,
+    answer: SurfaceAnswer,
+    eta: &[f64],
+    k: &[f64],
+    out: &mut [u8],
+    n: usize,
+) -> Answered {
+    match answer {
+        SurfaceAnswer::Refused(why) => return refused(out, n, why),
+        SurfaceAnswer::Given(surface) => {
+            store::keep_surface(surfaces, kinds, i, surface, eta, k);
+            return answered(output::text(out, n, b" ok\n"));
+        }
+    }
 }
 
 // surface INDEX KIND ROUGHNESS eta ENTRIES k ENTRIES
@@ -153,19 +264,19 @@ fn surface(
     text: &[u8],
     c: Cursor,
     surfaces: &mut [f64],
-    kinds: &mut [u8],
+    kinds: &mut [u64],
     out: &mut [u8],
     n: usize,
-) -> usize {
+) -> Answered {
     let index = line::index(text, c, store::SURFACES, Fault::SurfaceIndex);
     let kind = line::kind(text, index.next);
     let roughness = line::number(text, kind.next);
     let before_eta = line::keyword(text, roughness.next, b"eta", Fault::Eta);
-    let mut eta = [0.0; 256];
+    let mut eta = [0.0; sizes::LINE_NUMBERS];
     let eta_read = line::entries(text, before_eta, &mut eta);
     let eta_count = spread(&mut eta, eta_read.count);
     let before_k = line::keyword(text, eta_read.next, b"k", Fault::K);
-    let mut k = [0.0; 256];
+    let mut k = [0.0; sizes::LINE_NUMBERS];
     let k_read = line::entries(text, before_k, &mut k);
     let k_count = spread(&mut k, k_read.count);
     let end = line::end(text, k_read.next);
@@ -177,19 +288,14 @@ fn surface(
     let eta_part = store::part(&eta, 0, eta_count);
     let k_part = store::part(&k, 0, k_count);
     let of_kind = kind.value;
-    match checked::make_surface(of_kind, roughness.value, eta_part, k_part) {
-        SurfaceAnswer::Refused(why) => refused(out, a, why),
-        SurfaceAnswer::Given(made) => {
-            store::keep_surface(surfaces, kinds, i, made, eta_part, k_part);
-            output::text(out, a, b" ok\n")
-        }
-    }
+    let answer = checked::make_surface(of_kind, roughness.value, eta_part, k_part);
+    made(surfaces, kinds, i, answer, eta_part, k_part, out, a)
 }
 
 // start PATH LAMBDA*4
-fn start(text: &[u8], c: Cursor, paths: &mut [f64], out: &mut [u8], n: usize) -> usize {
+fn start(text: &[u8], c: Cursor, paths: &mut [f64], out: &mut [u8], n: usize) -> Answered {
     let index = line::index(text, c, store::PATHS, Fault::PathIndex);
-    let mut w = [0.0; 4];
+    let mut w = [0.0; sizes::COLOR];
     let read = line::numbers(text, index.next, &mut w);
     let end = line::end(text, read);
     if !end.ok {
@@ -201,18 +307,18 @@ fn start(text: &[u8], c: Cursor, paths: &mut [f64], out: &mut [u8], n: usize) ->
         Started::Refused(why) => refused(out, a, why),
         Started::Path(path) => {
             store::keep_path(paths, i, path);
-            output::text(out, a, b" ok\n")
+            answered(output::text(out, a, b" ok\n"))
         }
     }
 }
 
-fn vec3(w: &[f64], from: usize) -> Vec3
-    requires { ⌜ from ≤ 100000 ⌝ }
-{
+// Three numbers from a place on, as `store::color` has four.
+fn vec3(w: &[f64], from: u32) -> Vec3 {
+    let i = from as usize;
     Vec3 {
-        x: store::at(w, from),
-        y: store::at(w, from + 1),
-        z: store::at(w, from + 2),
+        x: store::at(w, i),
+        y: store::at(w, i + 1),
+        z: store::at(w, i + 2),
     }
 }
 
@@ -230,17 +336,34 @@ fn bounce_of(w: &[f64], backface: bool) -> Bounce {
     }
 }
 
+// A bounce of the path that is held as `p`, which is then the path that the answer carries: the same as
+// before if the bounce is refused.
+fn bounce_held(
+    paths: &mut [f64],
+    p: u64,
+    surface: Surface,
+    eta: &[f64],
+    k: &[f64],
+    b: Bounce,
+) -> Bounced
+    ensures { λ r. ⌜ (outcome r ≡ bounce (pathIn (now (paths .entry)) p) (microsurface surface (now (eta .entry)) (now (k .entry))) b) × (now (paths .exit) ≡ keepPath (now (paths .entry)) p (pathOf (outcome r))) ⌝ }
+{
+    let answer = bsdf::bounce(store::path(paths, p), surface, eta, k, b);
+    store::keep_path(paths, p, answer.path());
+    answer
+}
+
 // The bounce of path `p` on surface `s`.
 fn bounce_on(
     surfaces: &[f64],
-    kinds: &[u8],
+    kinds: &[u64],
     paths: &mut [f64],
     p: u64,
     s: u64,
     b: Bounce,
     out: &mut [u8],
     n: usize,
-) -> usize {
+) -> Answered {
     let before = store::path(paths, p);
     if !store::is_started(before) {
         return fault_at(out, n, 2, Fault::NoPath);
@@ -250,10 +373,10 @@ fn bounce_on(
         return fault_at(out, n, 3, Fault::NoSurface);
     }
     let surface = store::surface(place, kinds, s);
-    let answer = bsdf::bounce(before, surface, store::eta(place), store::k(place), b);
-    store::keep_path(paths, p, answer.path());
+    let eta = store::eta(place);
+    let answer = bounce_held(paths, p, surface, eta, store::k(place), b);
     let a = head(out, n, b" bounce ", p);
-    bounced(out, a, answer)
+    bounced(out, a, answer, measure_on(surface, eta, before.lambda.s0))
 }
 
 // bounce PATH SURFACE BACKFACE WO*3 NORMAL*3 U DISK C S KS*4 TF*4
@@ -261,15 +384,15 @@ fn bounce(
     text: &[u8],
     c: Cursor,
     surfaces: &[f64],
-    kinds: &[u8],
+    kinds: &[u64],
     paths: &mut [f64],
     out: &mut [u8],
     n: usize,
-) -> usize {
+) -> Answered {
     let p = line::index(text, c, store::PATHS, Fault::PathIndex);
     let s = line::index(text, p.next, store::SURFACES, Fault::SurfaceIndex);
     let backface = line::flag(text, s.next);
-    let mut w = [0.0; 18];
+    let mut w = [0.0; sizes::BOUNCE];
     let read = line::numbers(text, backface.next, &mut w);
     let end = line::end(text, read);
     if !end.ok {
@@ -282,13 +405,13 @@ fn bounce(
 // The density on surface `s`.
 fn density_on(
     surfaces: &[f64],
-    kinds: &[u8],
+    kinds: &[u64],
     s: u64,
     reflection: bool,
     w: &[f64],
     out: &mut [u8],
     n: usize,
-) -> usize {
+) -> Answered {
     let place = store::place(surfaces, s);
     if !store::is_made(place) {
         return fault_at(out, n, 2, Fault::NoSurface);
@@ -299,11 +422,12 @@ fn density_on(
     let wo = vec3(w, 0);
     let wi = vec3(w, 3);
     let a = head(out, n, b" density ", s);
-    match checked::pdf(surface, eta, k, wo, wi, reflection, store::at(w, 6)) {
+    let lambda = store::at(w, 6);
+    match checked::pdf(surface, eta, k, wo, wi, reflection, lambda) {
         FloatAnswer::Refused(why) => refused(out, a, why),
         FloatAnswer::Given(x) => {
-            let b = output::number(out, a, x);
-            output::text(out, b, b"\n")
+            let b = measured(out, a, x, measure_on(surface, eta, lambda));
+            answered(output::text(out, b, b"\n"))
         }
     }
 }
@@ -313,13 +437,13 @@ fn density(
     text: &[u8],
     c: Cursor,
     surfaces: &[f64],
-    kinds: &[u8],
+    kinds: &[u64],
     out: &mut [u8],
     n: usize,
-) -> usize {
+) -> Answered {
     let s = line::index(text, c, store::SURFACES, Fault::SurfaceIndex);
     let reflection = line::flag(text, s.next);
-    let mut w = [0.0; 7];
+    let mut w = [0.0; sizes::DENSITY];
     let read = line::numbers(text, reflection.next, &mut w);
     let end = line::end(text, read);
     if !end.ok {
@@ -333,15 +457,18 @@ pub fn answer(
     text: &[u8],
     number: u64,
     surfaces: &mut [f64],
-    kinds: &mut [u8],
+    kinds: &mut [u64],
     paths: &mut [f64],
     out: &mut [u8],
     n: usize,
-) -> usize {
+) -> Answered {
     let first = line::first_word(text);
     let word = line::word(text, first);
     if word.len() == 0 {
-        return n;
+        return Answered {
+            used: n,
+            outcome: Outcome::Nothing,
+        };
     }
     let c = line::behind_word(text, first);
     let a = output::decimal(out, n, number);

@@ -73,19 +73,18 @@ impl Cursor {
 
     pub fn wrong(self, fault: Fault) -> Cursor {
         Cursor {
-            at: self.at,
-            words: self.words,
             ok: false,
             fault: fault,
+            ..self
         }
     }
 
     fn past(self, end: usize) -> Cursor {
         Cursor {
             at: end,
-            words: self.words,
             ok: true,
             fault: Fault::Command,
+            ..self
         }
     }
 }

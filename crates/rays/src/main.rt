@@ -3,20 +3,20 @@
 use libc::STDERR_FILENO;
 use libc::STDIN_FILENO;
 use libc::STDOUT_FILENO;
+use tally::Answered;
+use tally::Outcome;
+use tally::Tally;
 
 mod commands;
 mod line;
 mod output;
+mod sizes;
 mod store;
-
-// The longest line, without its line feed.
-const LINE_MAX: usize = 4096;
-
-// The most that the answer to a line takes.
-const ANSWER_MAX: usize = 1024;
+mod tally;
 
 // How far the job is read: the bytes from `at` to `have` of the buffer are the next. `number` is the
-// line's, `skipping` whether the rest of it is skipped, and `used` how many bytes are to be written.
+// line's, `skipping` whether the rest of it is skipped, `used` how many bytes are to be written, and
+// `tally` what was answered.
 struct Stream {
     go: bool,
     at: usize,
@@ -24,6 +24,14 @@ struct Stream {
     number: u64,
     skipping: bool,
     used: usize,
+    tally: Tally,
+}
+
+// What reading gives.
+enum Fetched {
+    Bytes(usize),
+    End,
+    Failed,
 }
 
 // Where the first line feed is from `from` to `end`, and `end` where there is none.
@@ -78,35 +86,45 @@ fn line_answer(
     text: &[u8],
     s: Stream,
     surfaces: &mut [f64],
-    kinds: &mut [u8],
+    kinds: &mut [u64],
     paths: &mut [f64],
     out: &mut [u8],
-) -> usize {
+) -> Answered {
     let used = s.used;
     if s.skipping {
-        return used;
+        return Answered {
+            used: used,
+            outcome: Outcome::Nothing,
+        };
     }
-    if LINE_MAX < text.len() {
+    if sizes::LINE < text.len() {
         return commands::too_long(out, used, s.number);
     }
     commands::answer(text, s.number, surfaces, kinds, paths, out, used)
 }
 
+// The stream with an answer more.
+fn with_answer(s: Stream, a: Answered) -> Stream {
+    let outcome = a.outcome;
+    let before = s.tally;
+    let tally = before.plus(outcome);
+    Stream {
+        used: a.used,
+        tally: tally,
+        ..s
+    }
+}
+
 // The stream with room for an answer.
 fn with_room(out: &[u8], s: Stream) -> Stream {
     let used = s.used;
-    if used <= out.len() {
-        if ANSWER_MAX <= out.len() - used {
-            return s;
-        }
+    if used <= out.len() && sizes::ANSWER <= out.len() - used {
+        return s;
     }
     Stream {
         go: flush(out, used),
-        at: s.at,
-        have: s.have,
-        number: s.number,
-        skipping: s.skipping,
         used: 0,
+        ..s
     }
 }
 
@@ -114,21 +132,17 @@ fn with_room(out: &[u8], s: Stream) -> Stream {
 fn without_long(out: &mut [u8], s: Stream) -> Stream {
     if s.skipping {
         return Stream {
-            go: s.go,
             at: 0,
             have: 0,
-            number: s.number,
-            skipping: true,
-            used: s.used,
+            ..s
         };
     }
+    let r = with_answer(s, commands::too_long(out, s.used, s.number));
     Stream {
-        go: s.go,
         at: 0,
         have: 0,
-        number: s.number,
         skipping: true,
-        used: commands::too_long(out, s.used, s.number),
+        ..r
     }
 }
 
@@ -140,19 +154,14 @@ fn at_start(buf: &mut [u8], out: &mut [u8], s: Stream) -> Stream {
         return without_long(out, s);
     }
     let length = have - at;
-    if s.skipping || LINE_MAX < length {
+    if s.skipping || sizes::LINE < length {
         return without_long(out, s);
     }
-    if 0 < at {
-        shift(buf, at, length);
-    }
+    shift(buf, at, length);
     Stream {
-        go: s.go,
         at: 0,
         have: length,
-        number: s.number,
-        skipping: false,
-        used: s.used,
+        ..s
     }
 }
 
@@ -164,85 +173,95 @@ fn read_behind(fd: i32, buf: &mut [u8], have: usize) -> isize {
     0
 }
 
-// The last line is answered, if there is one, and the stream ends.
+// The last line is answered, if there is one, what was answered is counted, and the stream ends.
 fn last(
     buf: &[u8],
     s: Stream,
     surfaces: &mut [f64],
-    kinds: &mut [u8],
+    kinds: &mut [u64],
     paths: &mut [f64],
     out: &mut [u8],
 ) -> Stream {
     let text = line::part(buf, 0, s.have);
-    let used = line_answer(text, s, surfaces, kinds, paths, out);
+    let r = with_answer(s, line_answer(text, s, surfaces, kinds, paths, out));
+    let tally = r.tally;
+    let used = tally.text(out, r.used);
     flush(out, used);
-    Stream {
-        go: false,
-        at: 0,
-        have: 0,
-        number: s.number,
-        skipping: false,
-        used: 0,
-    }
+    stopped(r)
 }
 
-// The stream with `n` bytes more, and nothing to be written.
+fn stopped(s: Stream) -> Stream {
+    Stream { go: false, ..s }
+}
+
+// The stream with `n` bytes more.
 fn longer(buf: &[u8], s: Stream, n: usize) -> Stream {
     let have = s.have;
     if have <= buf.len() {
         if n <= buf.len() - have {
             return Stream {
-                go: s.go,
-                at: s.at,
                 have: have + n,
-                number: s.number,
-                skipping: s.skipping,
-                used: 0,
+                ..s
             };
         }
     }
     s
 }
 
-// What is read next, behind the first `have` bytes, once all answers are written: how many bytes.
-fn fetch(fd: i32, buf: &mut [u8], have: usize, out: &[u8], used: usize) -> usize {
+// What is read next, behind the first `have` bytes, once all answers are written.
+fn fetch(fd: i32, buf: &mut [u8], have: usize, out: &[u8], used: usize) -> Fetched {
     if !flush(out, used) {
-        return 0;
+        return Fetched::Failed;
     }
     let got = read_behind(fd, buf, have);
     if got < 0 {
         os::fail(b"rays: read");
+        return Fetched::Failed;
     }
-    io::count(got, buf)
+    let n = io::count(got, buf);
+    if n == 0 {
+        return Fetched::End;
+    }
+    Fetched::Bytes(n)
 }
 
 fn with_nothing_used(s: Stream) -> Stream {
-    Stream {
-        go: s.go,
-        at: s.at,
-        have: s.have,
-        number: s.number,
-        skipping: s.skipping,
-        used: 0,
-    }
+    Stream { used: 0, ..s }
 }
 
-// The stream with what is read next; at the job's end its last line is answered.
+// The stream with what was read; at the job's end its last line is answered.
+fn with_fetched(
+    buf: &[u8],
+    s: Stream,
+    fetched: Fetched,
+    surfaces: &mut [f64],
+    kinds: &mut [u64],
+    paths: &mut [f64],
+    out: &mut [u8],
+) -> Stream {
+    if let Fetched::Bytes(n) = fetched {
+        return longer(buf, s, n);
+    }
+    if let Fetched::Failed = fetched {
+        return stopped(s);
+    }
+    last(buf, s, surfaces, kinds, paths, out)
+}
+
+// The stream once more is read.
 fn more(
     fd: i32,
     buf: &mut [u8],
     s: Stream,
     surfaces: &mut [f64],
-    kinds: &mut [u8],
+    kinds: &mut [u64],
     paths: &mut [f64],
     out: &mut [u8],
 ) -> Stream {
     let r = at_start(buf, out, s);
-    let n = fetch(fd, buf, r.have, out, r.used);
-    if n == 0 {
-        return last(buf, with_nothing_used(r), surfaces, kinds, paths, out);
-    }
-    longer(buf, r, n)
+    let fetched = fetch(fd, buf, r.have, out, r.used);
+    let written = with_nothing_used(r);
+    with_fetched(buf, written, fetched, surfaces, kinds, paths, out)
 }
 
 // The place behind the line feed at `end`.
@@ -254,14 +273,12 @@ fn after(end: usize, have: usize) -> usize {
 }
 
 // The stream behind the line that ends at `end`.
-fn behind(s: Stream, end: usize, used: usize) -> Stream {
+fn behind(s: Stream, end: usize) -> Stream {
     Stream {
-        go: s.go,
         at: after(end, s.have),
-        have: s.have,
         number: line::next(s.number),
         skipping: false,
-        used: used,
+        ..s
     }
 }
 
@@ -271,7 +288,7 @@ fn step(
     buf: &mut [u8],
     s: Stream,
     surfaces: &mut [f64],
-    kinds: &mut [u8],
+    kinds: &mut [u64],
     paths: &mut [f64],
     out: &mut [u8],
 ) -> Stream {
@@ -281,8 +298,8 @@ fn step(
     if end < have {
         let r = with_room(out, s);
         let text = line::part(buf, at, end);
-        let used = line_answer(text, r, surfaces, kinds, paths, out);
-        return behind(r, end, used);
+        let a = line_answer(text, r, surfaces, kinds, paths, out);
+        return behind(with_answer(r, a), end);
     }
     more(fd, buf, s, surfaces, kinds, paths, out)
 }
@@ -292,7 +309,7 @@ fn answer_all(
     fd: i32,
     buf: &mut [u8],
     surfaces: &mut [f64],
-    kinds: &mut [u8],
+    kinds: &mut [u64],
     paths: &mut [f64],
     out: &mut [u8],
 ) {
@@ -303,6 +320,7 @@ fn answer_all(
         number: 1,
         skipping: false,
         used: 0,
+        tally: Tally::new(),
     };
     let mut turns = u64::MAX;
     while turns > 0 && s.go {
@@ -313,10 +331,10 @@ fn answer_all(
 
 fn answer_job(fd: i32) {
     let mut buf = io::large_buffer();
-    let mut surfaces = [0.0; 12288];
-    let mut kinds = [0u8; 64];
-    let mut paths = [0.0; 8192];
-    let mut out = [0u8; 16384];
+    let mut surfaces = [0.0; sizes::SURFACES * sizes::SURFACE];
+    let mut kinds = [0u64; sizes::SURFACES];
+    let mut paths = [0.0; sizes::PATHS * sizes::PATH];
+    let mut out = [0u8; sizes::OUTPUT];
     answer_all(
         fd,
         &mut buf,

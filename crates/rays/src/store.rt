@@ -1,29 +1,107 @@
 // The surfaces and the paths that a job holds, in flat arrays that `main` lends.
 //
-//   surface i   192 floats from 192·i: roughness x and y, eta, k; its kind is the byte i of `kinds`
-//   path i      8 floats from 8·i: wavelengths and powers
+//   surface i   sizes::SURFACE numbers: roughness x and y, eta, k; its kind's code is the number i of `kinds`
+//   path i      sizes::PATH numbers: wavelengths and powers
 //
 // Zeros are a surface that was not made, whose roughness is never 0, and a path that was not started,
 // whose leading wavelength never is.
+use crate::sizes;
+use numbers::float;
 use numbers::vec2::Vec2;
 use optics::color::Color;
 use optics::microfacet::Kind;
 use optics::microfacet::Surface;
 use path::records::Path;
-ghost use Prim.Native.Nat.{_≤_};
+ghost use mathlib.Core.Path.{_≡_};
+ghost use lib.Seq.{sets};
+ghost use Rattle.rays.specs.Store as Store;
+ghost use Rattle.rays.specs.Store.{colorAt, pathPlace, pathIn, pathNumbers, keepPath, isStarted};
 
-pub const SURFACES: u64 = 64;
+pub const SURFACES: u64 = sizes::SURFACES as u64;
 
-pub const PATHS: u64 = 1024;
+pub const PATHS: u64 = sizes::PATHS as u64;
 
-// The float, and 0 past the end.
-pub fn at(values: &[f64], i: usize) -> f64 {
+// The number at `i`, and NaN past the end.
+pub fn at(values: &[f64], i: usize) -> f64
+    ensures { λ r. ⌜ r ≡ Store.at (now (values .entry)) i ⌝ }
+{
     if i < values.len() {
         return values[i];
     }
-    0.0
+    float::nan()
 }
 
+// Four numbers from a place on, which is a u32 so that no sum with it wraps.
+pub fn color(values: &[f64], from: u32) -> Color
+    ensures { λ r. ⌜ r ≡ colorAt (now (values .entry)) from ⌝ }
+{
+    let i = from as usize;
+    Color {
+        s0: at(values, i),
+        s1: at(values, i + 1),
+        s2: at(values, i + 2),
+        s3: at(values, i + 3),
+    }
+}
+
+// Stores numbers from a place on; those past the end are left out.
+fn put(values: &mut [f64], from: u32, numbers: &[f64])
+    ensures { λ _. ⌜ now (values .exit) ≡ sets (now (values .entry)) from (now (numbers .entry)) ⌝ }
+{
+    let mut at = from as usize;
+    let mut i: usize = 0;
+    while i < numbers.len() && at < values.len() {
+        values[at] = numbers[i];
+        at += 1;
+        i += 1;
+    }
+}
+
+// ---- paths
+fn path_place(i: u64) -> u32
+    ensures { λ r. ⌜ r ≡ pathPlace i ⌝ }
+{
+    (i % PATHS) as u32 * sizes::PATH as u32
+}
+
+pub fn path(paths: &[f64], i: u64) -> Path
+    ensures { λ r. ⌜ r ≡ pathIn (now (paths .entry)) i ⌝ }
+{
+    let from = path_place(i);
+    Path {
+        lambda: color(paths, from),
+        power: color(paths, from + sizes::COLOR as u32),
+    }
+}
+
+pub fn is_started(p: Path) -> bool
+    ensures { λ r. ⌜ r ≡ isStarted p ⌝ }
+{
+    0.0 < p.lambda.s0
+}
+
+fn path_numbers(p: Path) -> [f64; sizes::PATH]
+    ensures { λ r. ⌜ r ≡ pathNumbers p ⌝ }
+{
+    [
+        p.lambda.s0,
+        p.lambda.s1,
+        p.lambda.s2,
+        p.lambda.s3,
+        p.power.s0,
+        p.power.s1,
+        p.power.s2,
+        p.power.s3,
+    ]
+}
+
+pub fn keep_path(paths: &mut [f64], i: u64, p: Path)
+    ensures { λ _. ⌜ now (paths .exit) ≡ keepPath (now (paths .entry)) i p ⌝ }
+{
+    put(paths, path_place(i), &path_numbers(p));
+}
+
+// ---- surfaces
 fn set(values: &mut [f64], i: usize, x: f64) {
     if i < values.len() {
         values[i] = x;
@@ -40,10 +118,10 @@ pub fn part(values: &[f64], a: usize, b: usize) -> &[f64] {
     &values[..0]
 }
 
-// The surface's place; the whole where it has none.
+// The surface's place; empty where it has none.
 pub fn place(surfaces: &[f64], i: u64) -> &[f64] {
-    let from = (i % SURFACES) as usize * 192;
-    part(surfaces, from, from + 192)
+    let from = (i % SURFACES) as usize * sizes::SURFACE;
+    part(surfaces, from, from + sizes::SURFACE)
 }
 
 pub fn is_made(place: &[f64]) -> bool {
@@ -51,15 +129,15 @@ pub fn is_made(place: &[f64]) -> bool {
 }
 
 pub fn eta(place: &[f64]) -> &[f64] {
-    part(place, 2, 97)
+    part(place, sizes::ROUGHNESS, sizes::K)
 }
 
 pub fn k(place: &[f64]) -> &[f64] {
-    part(place, 97, 192)
+    part(place, sizes::K, sizes::SURFACE)
 }
 
 // The surface, without its spectra.
-pub fn surface(place: &[f64], kinds: &[u8], i: u64) -> Surface {
+pub fn surface(place: &[f64], kinds: &[u64], i: u64) -> Surface {
     Surface {
         kind: kind(kinds, (i % SURFACES) as usize),
         roughness: Vec2 {
@@ -69,25 +147,16 @@ pub fn surface(place: &[f64], kinds: &[u8], i: u64) -> Surface {
     }
 }
 
-fn kind(kinds: &[u8], i: usize) -> Kind {
+fn kind(kinds: &[u64], i: usize) -> Kind {
     if i < kinds.len() {
-        if kinds[i] == 1 {
-            return Kind::Glass;
-        }
+        return Kind::of_code(kinds[i]);
     }
     Kind::Metal
 }
 
-fn code(kind: Kind) -> u8 {
-    match kind {
-        Kind::Metal => 0,
-        Kind::Glass => 1,
-    }
-}
-
-fn keep_kind(kinds: &mut [u8], i: usize, kind: Kind) {
+fn keep_kind(kinds: &mut [u64], i: usize, kind: Kind) {
     if i < kinds.len() {
-        kinds[i] = code(kind);
+        kinds[i] = kind.code();
     }
 }
 
@@ -109,19 +178,19 @@ fn copy_to(values: &mut [f64], a: usize, b: usize, from: &[f64]) {
 
 pub fn keep_surface(
     surfaces: &mut [f64],
-    kinds: &mut [u8],
+    kinds: &mut [u64],
     i: u64,
     surface: Surface,
     eta: &[f64],
     k: &[f64],
 ) {
-    let from = (i % SURFACES) as usize * 192;
+    let from = (i % SURFACES) as usize * sizes::SURFACE;
     let kind = surface.kind;
     keep_kind(kinds, (i % SURFACES) as usize, kind);
     set(surfaces, from, surface.roughness.x);
     set(surfaces, from + 1, surface.roughness.y);
-    copy_to(surfaces, from + 2, from + 97, eta);
-    copy_to(surfaces, from + 97, from + 192, k);
+    copy_to(surfaces, from + sizes::ROUGHNESS, from + sizes::K, eta);
+    copy_to(surfaces, from + sizes::K, from + sizes::SURFACE, k);
 }
 
 // One number for every entry.
@@ -132,42 +201,4 @@ pub fn fill(values: &mut [f64]) {
         values[i] = x;
         i += 1;
     }
-}
-
-pub fn path(paths: &[f64], i: u64) -> Path {
-    let from = (i % PATHS) as u32 * 8;
-    Path {
-        lambda: color(paths, from),
-        power: color(paths, from + 4),
-    }
-}
-
-// Four numbers from a place on, which is a u32 so that no sum with it wraps.
-pub fn color(values: &[f64], from: u32) -> Color {
-    let i = from as usize;
-    Color {
-        s0: at(values, i),
-        s1: at(values, i + 1),
-        s2: at(values, i + 2),
-        s3: at(values, i + 3),
-    }
-}
-
-fn set_color(values: &mut [f64], from: usize, a: Color)
-    requires { ⌜ from ≤ 100000 ⌝ }
-{
-    set(values, from, a.s0);
-    set(values, from + 1, a.s1);
-    set(values, from + 2, a.s2);
-    set(values, from + 3, a.s3);
-}
-
-pub fn is_started(p: Path) -> bool {
-    0.0 < p.lambda.s0
-}
-
-pub fn keep_path(paths: &mut [f64], i: u64, p: Path) {
-    let from = (i % PATHS) as usize * 8;
-    set_color(paths, from, p.lambda);
-    set_color(paths, from + 4, p.power);
 }

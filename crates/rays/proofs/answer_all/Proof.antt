@@ -63,5 +63,5 @@ same-length-10 c = c .before .loop .inv .4
 pub answer-all-spec : {M : Type 1} → statement M
 answer-all-spec =
     tie.close
-    (tie.spec Inv-loop μ-loop loop-holds (λ c κs. tt) (λ c. omega arith) (λ c. omega arith) loop-again same-length same-length-2 same-length-3
+    (tie.spec Inv-loop μ-loop (λ c κs. tt) loop-holds (λ c κs. tt) (λ c. omega arith) (λ c. omega arith) loop-again same-length same-length-2 same-length-3
     same-length-4 same-length-5 (λ c. tt) same-length-6 same-length-7 same-length-8 same-length-9 same-length-10 (λ c. tt))

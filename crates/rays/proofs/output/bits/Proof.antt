@@ -1,6 +1,6 @@
 -- `bits` is safe: a value that equals itself is no NaN, and so has one pattern.
 use borrow.Author.Needs.{needs}
-use Rattle.numbers.proofs.FloatBits.{not-nan}
+use Rattle.numbers.proofs.float.FloatBits.{not-nan}
 use Rattle.rays.proofs.output.bits.Statement.{statement}
 use Rattle.rays.proofs.output.bits.Tie as tie
 
