@@ -12,20 +12,34 @@
  * written to (path, output) overlaps nothing else that is handed in. The processor's float control is
  * the default (round to nearest, nothing flushed to zero): a program linked with -ffast-math, or one
  * that sets a rounding mode, gets other answers. Calls on different memory may run on different
- * threads. The library is for x86-64.
+ * threads. The library is for x86-64 with the System V ABI, as on Linux.
  *
- * NUMBERS. Every result has a number: 0 where the call is accepted, else why it is refused:
- *    1 roughness (or a kind that is neither metal nor glass)      6 a random number
- *    2 eta, or the values of a lookup                             7 the circle pair
- *    3 k                                                          8 a filter
- *    4 a wavelength                                               9 a density that is not finite
- *    5 a direction                                               10 a power
- * Checks go in the order in which each function lists them; the first that fails gives the number.
- * A refusal carries nothing besides: every other field of the result is 0, and memory is as it was.
- * NaN is outside every range.
+ * NUMBERS. Every result has a number: 0 where the call is accepted, else why it is refused, one of
+ * RULVIMBA_REFUSED_.. below. Checks go in the order in which each function lists them; the first that
+ * fails gives the number. A refusal carries nothing besides: every other field of the result is 0, and
+ * memory is as it was. NaN is outside every range. -0 counts as 0 in every range and comparison; its sign
+ * is read in the z of a shading normal, where it turns a sampled direction about that normal, and of a
+ * facet's normal (rulvimba_g, rulvimba_g1).
+ *
+ * DIRECTIONS. wo points away from the surface, back to where the light comes from; wi points to where it
+ * goes. Light that goes on to another surface has there wo = -wi.
+ *
+ * SIDES. A normal points to the outer side. On glass eta is the index of the inner side, away from the
+ * normal, over that of the outer side. Light enters where wo is on the outer side, its product with the
+ * normal not below 0, and leaves where wo is on the inner side, the product below 0; the normal is never
+ * turned. On rough glass the normal of the sampled facet stands for it. The backface flag is read on
+ * metal alone: where it is set, the light is lost. On glass it does nothing. Metal without it reflects on
+ * either side.
+ *
+ * DENSITIES. A surface that sends light into one direction has a probability: mean roughness below 0.001,
+ * or glass whose eta at the leading wavelength (a path's first) is 1.0. Any other has a density per solid
+ * angle, per steradian.
  */
 #ifndef RULVIMBA_H
 #define RULVIMBA_H
+
+/* Raised with each change of a call, a struct or a number. */
+#define RULVIMBA_VERSION 1
 
 #include <stdbool.h>
 #include <stddef.h>
@@ -34,6 +48,20 @@
 #ifdef __cplusplus
 extern "C" {
 #endif
+
+/* ---- why a call is refused ---- */
+enum {
+    RULVIMBA_REFUSED_ROUGHNESS = 1,     /* or a kind that is neither metal nor glass */
+    RULVIMBA_REFUSED_ETA = 2,           /* or the values of a lookup */
+    RULVIMBA_REFUSED_K = 3,
+    RULVIMBA_REFUSED_WAVELENGTH = 4,
+    RULVIMBA_REFUSED_DIRECTION = 5,
+    RULVIMBA_REFUSED_RANDOM_NUMBER = 6, /* u or the disk number */
+    RULVIMBA_REFUSED_CIRCLE_PAIR = 7,   /* c and s */
+    RULVIMBA_REFUSED_FILTER = 8,        /* ks or tf */
+    RULVIMBA_REFUSED_NOT_FINITE = 9,    /* a density that is not finite */
+    RULVIMBA_REFUSED_POWER = 10
+};
 
 /* ---- what goes in ---- */
 
@@ -61,10 +89,10 @@ typedef struct {
 typedef struct { rulvimba_color lambda, power; } rulvimba_path;
 
 /*
- * A bounce's arguments but the path and the surface. wo points back to where the light comes from; wo
- * and the shading normal are in world space. u and disk are random numbers from 0 to below 1; c and s
- * are the cosine and the sine of a random angle: each from -1 to 1, c*c + s*s within 1e-12 of 1. ks
- * filters what is reflected and tf what is passed, each from 0 to 1.
+ * A bounce's arguments but the path and the surface. wo and the shading normal are in world space. u and
+ * disk are random numbers from 0 to below 1; c and s are the cosine and the sine of a random angle: each
+ * from -1 to 1, c*c + s*s within 1e-12 of 1. ks filters what is reflected and tf what is passed, each from
+ * 0 to 1.
  */
 typedef struct {
     rulvimba_vec3 wo, normal;
@@ -133,9 +161,10 @@ rulvimba_bounce_result rulvimba_bounce(rulvimba_path *path, rulvimba_surface sur
 
 /*
  * Many bounces on one surface, each on a path of its own and by itself as rulvimba_bounce has it.
- * Bounce i is read from input[27 i] to input[27 i + 26]:
+ * Bounce i is read from input[27 i] to input[27 i + 26], where backface is "yes" for anything but 0,
+ * NaN included:
  *    0..3   wavelengths       11..13 normal                       19..22 ks
- *    4..7   powers            14     backface: 0 no, else yes     23..26 tf
+ *    4..7   powers            14     backface: yes unless 0       23..26 tf
  *    8..10  wo                15 u   16 disk   17 c   18 s
  * and its answer is written to output[18 i] to output[18 i + 17], whole numbers as doubles:
  *    0..3   wavelengths       8      number                       13 density.finite   14 density.value
