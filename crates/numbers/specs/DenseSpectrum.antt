@@ -8,7 +8,7 @@ use lib.ListN.{length, getD}
 use lib.Ieee.{Float, nan, fin, binary64, toUnsigned, ofInt, lt, eq}
 use Rattle.numbers.specs.Float.{_⊕_, _⊖_, _⊗_, _⊘_, f0, f1, f-1, within, isFinite}
 
--- ---- the table: what 02 (i) changes stands here alone
+-- ---- the table, which 02 (i) changes
 -- wavelengths from 360 to 830, in nanometres
 abbrev pub lambdaMin : Float
 lambdaMin = fin false 45 (pos 3)
