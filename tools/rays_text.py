@@ -381,7 +381,7 @@ class Counts(NamedTuple):
 
 
 ERROR = re.compile(r"([1-9][0-9]*) error (?:word ([1-9][0-9]{0,3})|line): (.+)")
-CLOSING = re.compile(r"end (0|[1-9][0-9]*) answers (0|[1-9][0-9]*) refusals (0|[1-9][0-9]*) errors")
+CLOSING = re.compile("end (0|[1-9][0-9]{0,18}) answers (0|[1-9][0-9]{0,18}) refusals (0|[1-9][0-9]{0,18}) errors")
 LINE = re.compile("[1-9][0-9]{0,18}")
 
 
