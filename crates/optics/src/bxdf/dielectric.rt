@@ -8,7 +8,7 @@ use crate::microfacet::Ggx;
 use numbers::float;
 use numbers::vec3::Vec3;
 ghost use mathlib.Core.Path.{_≡_};
-ghost use Rattle.optics.specs.Bxdf.{sampled, isSmooth, dielectricNormal, dielectricFrom, dielectricSample};
+ghost use Rattle.optics.specs.Bxdf.{sampled, isSmooth, reflects, dielectricNormal, dielectricFrom, dielectricSample};
 ghost use Rattle.numbers.specs.Vec3.{dot};
 ghost use Rattle.optics.specs.Density.{etaRatio, dielectricHalf, isDiscarded, reflectedPdf, passedPdf, dielectricPdfFrom, dielectricPdf};
 ghost use Rattle.optics.specs.SharedTerms.{sampleNormalPdfAt, dielectricPdfWith};
@@ -30,13 +30,20 @@ pub fn normal(wo: Vec3, mfd: Ggx, eta: f64, disk: f64, c: f64, s: f64) -> Vec3
     mfd.sample_normal(wo, disk, c, s)
 }
 
+// Whether light is reflected, `pr` being the share that is: importance sample reflection/transmission
+// with fresnel
+fn reflects(rand_u: f64, pr: f64) -> bool
+    ensures { λ r. ⌜ r ≡ reflects «rand_u» pr ⌝ }
+{
+    let pt = 1.0 - pr;
+    rand_u < pr / (pr + pt)
+}
+
 // The direction that the facet's normal `wh` sends on, `pr` being the share that is reflected.
 pub fn sample_from(wo: Vec3, wh: Vec3, eta: f64, pr: f64, rand_u: f64) -> Sampled
     ensures { λ r. ⌜ sampled r ≡ dielectricFrom eta pr «rand_u» wo wh ⌝ }
 {
-    // importance sample reflection/transmission with fresnel
-    let pt = 1.0 - pr;
-    if rand_u < pr / (pr + pt) {
+    if reflects(rand_u, pr) {
         return match bxdf::reflect(wo, wh) {
             Reflected::Direction(wi) => Sampled::Direction {
                 wi,

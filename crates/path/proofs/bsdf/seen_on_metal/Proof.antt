@@ -10,7 +10,7 @@ returns c =
     let at-pdf-with = c .before in
     let at-lambda-unless = at-pdf-with .before in
     let one = at-lambda-unless .before .is-delta .ensures in (
-      rw (at-pdf-with .pdf-with .ensures, at-lambda-unless .lambda-unless .ensures, one, metal-density _ f0 _ _),
+      rw (at-pdf-with .pdf-with .ensures, at-lambda-unless .lambda-unless .ensures, one) (metal-density _ f0 _ _),
       rw (c .shadowing .ensures, one),
     )
 
