@@ -1,14 +1,14 @@
 -- Document 01's starred samples about this crate (`Samples` of specs/Samples.antt), and roots
 -- that are known from elsewhere: each is computed from the definitions.
 use mathlib.Core.Path.{_≡_, refl}
-use mathlib.Core.Bool.{true, false, _&&_}
+use mathlib.Core.Bool.{true, false}
 use mathlib.Core.List.{List, _∷_}
 use lib.IntN.{pos, negsuc}
 use lib.Ieee.Bits.{is-true}
 use lib.Ieee.{Float, fin, binary32, binary64, add, sub, mul, div, lt, le, eq, ofInt, toUnsigned, toBits}
 use Rattle.numbers.specs.Float.{decimal, f0, f1, f2, within}
 use Rattle.numbers.specs.SquareRoot.{squareRoot}
-use Rattle.numbers.specs.DenseSpectrum.{isTable, entry, allFinite, sampleOne, sampleOneAt, upperPoint, upperLambda, upperWeight, ceiling, interpolate, isLookupWavelength, isWavelength}
+use Rattle.numbers.specs.DenseSpectrum.{entry, sampleOne, sampleOneAt, upperPoint, upperLambda, upperWeight, ceiling, interpolate, isLookupWavelength, isWavelength}
 use Rattle.numbers.specs.Refusal.{refuse, _then_, refused, given, _▷_}
 use Rattle.numbers.specs.Checked.{tableHolds, checkTable, checkLookup, lookup}
 use Rattle.numbers.specs.Samples.{Entries, Samples}

@@ -1,21 +1,11 @@
 -- What the functions that refuse answer, by document 01's numbers ("At the counter"). Definitions only.
 -- An answer's enum is read as 01's number or the value (`floatAnswer` and its like), and that is what a promise speaks of.
-use mathlib.Core.Bool.{Bool, _&&_}
-use mathlib.Core.List.{List}
+use mathlib.Core.{Bool.Bool, Bool._&&_, List.List}
 use lib.Ieee.{Float}
-use Rattle.numbers.specs.declared.vec3.Vec3.{Vec3}
-use Rattle.numbers.specs.declared.onb.Onb.{Onb}
-use Rattle.numbers.specs.declared.checked.FloatAnswer.{FloatAnswer}
-use Rattle.numbers.specs.declared.checked.FloatAnswer.the-variants as FloatAnswer
-use Rattle.numbers.specs.declared.checked.BoolAnswer.{BoolAnswer}
-use Rattle.numbers.specs.declared.checked.BoolAnswer.the-variants as BoolAnswer
-use Rattle.numbers.specs.declared.checked.Vec3Answer.{Vec3Answer}
-use Rattle.numbers.specs.declared.checked.Vec3Answer.the-variants as Vec3Answer
-use Rattle.numbers.specs.declared.checked.OnbAnswer.{OnbAnswer}
-use Rattle.numbers.specs.declared.checked.OnbAnswer.the-variants as OnbAnswer
+pub use Rattle.numbers.specs.declared.checked.{FloatAnswer.FloatAnswer, BoolAnswer.BoolAnswer, Vec3Answer.Vec3Answer, OnbAnswer.OnbAnswer}
 use Rattle.numbers.specs.Refusal.{number, Verdict, refuse, _then_, Answer, refused, given, _▷_}
-use Rattle.numbers.specs.Vec3.{isDirection}
-use Rattle.numbers.specs.Onb.{basis, toLocal, toWorld}
+use Rattle.numbers.specs.Vec3.{Vec3, isDirection}
+use Rattle.numbers.specs.Onb.{Onb, basis, toLocal, toWorld}
 use Rattle.numbers.specs.SphericalUtils.{sameHemisphere}
 use Rattle.numbers.specs.DenseSpectrum.{isTable, allFinite, isWavelength, isLookupWavelength, sampleOne}
 

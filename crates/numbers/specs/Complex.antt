@@ -1,7 +1,7 @@
 -- Complex numbers, in the order of operations of lumo's src/math/complex.rs, with document 01's stand-in one in `sqrt`. Definitions only.
 use mathlib.Core.Bool.{Bool, _&&_, cond}
 use lib.Ieee.{Float, nan, neg, eq}
-use Rattle.numbers.specs.declared.complex.Complex.{Complex}
+pub use Rattle.numbers.specs.declared.complex.Complex.{Complex}
 use Rattle.numbers.specs.Float.{_⊕_, _⊖_, _⊗_, _⊘_, f0, f1, f2, max, signBit}
 use Rattle.numbers.specs.SquareRoot as Root
 

@@ -1,7 +1,6 @@
 -- A spectrum of entries at equal steps over the wavelengths of the model, and its lookup, in the order of operations of lumo's src/tracer/color/dense_spectrum.rs. Definitions only.
 use Prim.Native.Nat.{ℕ, _+_, _-_}
-use mathlib.Core.Bool.{Bool, true, false, _&&_, _||_, cond}
-use mathlib.Core.List.{List, [], _∷_}
+use mathlib.Core.{Bool.Bool, Bool.true, Bool.false, Bool._&&_, Bool._||_, Bool.cond, List.List, List.[], List._∷_}
 use lib.IntN.{pos}
 use lib.Dec.{eqb}
 use lib.ListN.{length, getD}

@@ -1,12 +1,11 @@
 -- A lookup in two steps, so that spectra which are read at one wavelength find its place among the grid points once: a form that serves speed alone.
 -- Read from that place, a spectrum gives what its lookup gives (`sample-from-point`, proofs/dense_spectrum/SampleFrom.antt). Definitions only.
 use Prim.Native.Nat.{_-_}
-use mathlib.Core.Bool.{cond}
-use mathlib.Core.List.{List}
+use mathlib.Core.{Bool.cond, List.List}
 use lib.Ieee.{Float, eq}
 use Rattle.numbers.specs.Float.{f0}
 use Rattle.numbers.specs.DenseSpectrum.{denseStep, terminated, upperPoint, upperLambda, upperWeight, entry, interpolate}
-use Rattle.numbers.specs.declared.dense_spectrum.GridPoint.{GridPoint}
+pub use Rattle.numbers.specs.declared.dense_spectrum.GridPoint.{GridPoint}
 
 unfoldable pub gridPointAt : Float → Float → GridPoint
 gridPointAt step lambda = record {

@@ -1,10 +1,8 @@
 -- Refusals by document 01's numbers ("At the counter"), checks one after the other, and answers that may be a refusal. Definitions only.
 use Prim.Native.Nat.{ℕ}
 use mathlib.Core.Bool.{Bool, cond}
-use Rattle.numbers.specs.declared.refusal.Refusal.{Refusal}
+pub use Rattle.numbers.specs.declared.refusal.{Refusal.Refusal, Check.Check}
 use Rattle.numbers.specs.declared.refusal.Refusal.the-variants.{Roughness, Eta, K, Wavelength, Direction, RandomNumber, CirclePair, Filter, NotFinite, Power}
-use Rattle.numbers.specs.declared.refusal.Check.{Check}
-use Rattle.numbers.specs.declared.refusal.Check.the-variants as Check
 
 -- 01's number of each ground of refusal
 unfoldable pub number : Refusal → ℕ

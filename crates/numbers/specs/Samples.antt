@@ -1,8 +1,5 @@
--- Document 01's measured samples that are to be proved (marked * there), as far as they concern this
--- crate: one conjunction. Definitions only; it is proved in proofs/Samples.antt.
-use mathlib.Core.Path.{_≡_}
-use mathlib.Core.Bool.{true, false}
-use mathlib.Core.List.{List, _∷_}
+-- Document 01's measured samples that are to be proved (marked * there), as far as they concern this crate: one conjunction. Definitions only; it is proved in proofs/Samples.antt.
+use mathlib.Core.{Path._≡_, Bool.true, Bool.false, List.List, List._∷_}
 use lib.IntN.{pos, negsuc}
 use lib.Dec.{T}
 use lib.Ieee.{Float, fin}

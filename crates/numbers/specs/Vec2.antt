@@ -1,9 +1,9 @@
 -- Vectors of two floats, in the order of operations of lumo's src/math/vec2.rs. Definitions only.
 use lib.Ieee.{Float, neg}
-use Rattle.numbers.specs.declared.vec2.Vec2.{Vec2}
+pub use Rattle.numbers.specs.declared.vec2.Vec2.{Vec2}
 use Rattle.numbers.specs.declared.vec3.Vec3.{Vec3}
 use Rattle.numbers.specs.Float as F
-use Rattle.numbers.specs.Float.{_⊕_, _⊖_, _⊗_, _⊘_, f0, f1}
+use Rattle.numbers.specs.Float.{_⊕_, _⊖_, _⊗_, _⊘_}
 
 abbrev pub vec2 : Float → Float → Vec2
 vec2 x y = record { x = x; y = y }
@@ -14,18 +14,6 @@ each f v = vec2 (f (v .x)) (f (v .y))
 
 abbrev pub each2 : (Float → Float → Float) → Vec2 → Vec2 → Vec2
 each2 f v w = vec2 (f (v .x) (w .x)) (f (v .y) (w .y))
-
-abbrev pub ZERO : Vec2
-ZERO = vec2 f0 f0
-
-abbrev pub X : Vec2
-X = vec2 f1 f0
-
-abbrev pub Y : Vec2
-Y = vec2 f0 f1
-
-abbrev pub ONE : Vec2
-ONE = vec2 f1 f1
 
 abbrev pub splat : Float → Vec2
 splat a = vec2 a a

@@ -1,11 +1,11 @@
 -- Vectors of three floats, in the order of operations of lumo's src/math/vec3.rs. Definitions only.
 use mathlib.Core.Bool.{Bool}
 use lib.Ieee.{Float, neg, lt}
-use Rattle.numbers.specs.declared.vec2.Vec2.{Vec2}
-use Rattle.numbers.specs.declared.vec3.Vec3.{Vec3}
+pub use Rattle.numbers.specs.declared.vec3.Vec3.{Vec3}
 use Rattle.numbers.specs.Float as F
 use Rattle.numbers.specs.Float.{_⊕_, _⊖_, _⊗_, _⊘_, f0, f1, epsilon, decimal, within}
 use Rattle.numbers.specs.SquareRoot.{sqrt}
+use Rattle.numbers.specs.Vec2.{Vec2}
 
 abbrev pub vec3 : Float → Float → Float → Vec3
 vec3 x y z = record { x = x; y = y; z = z }
@@ -17,20 +17,11 @@ each f v = vec3 (f (v .x)) (f (v .y)) (f (v .z))
 abbrev pub each2 : (Float → Float → Float) → Vec3 → Vec3 → Vec3
 each2 f v w = vec3 (f (v .x) (w .x)) (f (v .y) (w .y)) (f (v .z) (w .z))
 
-abbrev pub ZERO : Vec3
-ZERO = vec3 f0 f0 f0
-
 abbrev pub X : Vec3
 X = vec3 f1 f0 f0
 
-abbrev pub Y : Vec3
-Y = vec3 f0 f1 f0
-
 abbrev pub Z : Vec3
 Z = vec3 f0 f0 f1
-
-abbrev pub ONE : Vec3
-ONE = vec3 f1 f1 f1
 
 abbrev pub splat : Float → Vec3
 splat a = vec3 a a a

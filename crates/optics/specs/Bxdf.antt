@@ -4,17 +4,11 @@ use lib.Ieee.{Float, neg, lt, eq}
 use Rattle.numbers.specs.Float.{_⊕_, _⊖_, _⊘_, f0, f1, f2}
 use Rattle.numbers.specs.Vec3.{vec3, Z, add, sub, floatMul, divFloat, negate, dot, projectOnto}
 use Rattle.numbers.specs.SphericalUtils.{sameHemisphere}
-use Rattle.numbers.specs.declared.vec2.Vec2.{Vec2}
-use Rattle.numbers.specs.declared.vec3.Vec3.{Vec3}
+use Rattle.numbers.specs.declared.{vec2.Vec2.Vec2, vec3.Vec3.Vec3}
 use Rattle.optics.specs.Facets.{isDelta}
 use Rattle.optics.specs.Fresnel.{sin2I, isTotal, cosI, fAt}
 use Rattle.optics.specs.Sampler.{sampleNormal}
-use Rattle.optics.specs.declared.bxdf.Reflected.{Reflected}
-use Rattle.optics.specs.declared.bxdf.Reflected.the-variants as R
-use Rattle.optics.specs.declared.bxdf.Refracted.{Refracted}
-use Rattle.optics.specs.declared.bxdf.Refracted.the-variants as Rf
-use Rattle.optics.specs.declared.bxdf.Sampled.{Sampled}
-use Rattle.optics.specs.declared.bxdf.Sampled.the-variants as S
+pub use Rattle.optics.specs.declared.bxdf.{Reflected.Reflected, Refracted.Refracted, Sampled.Sampled}
 
 -- what a mirror or a bend answers: a direction, none, or total reflection where the Rust has `unreachable!`
 pub data Outgoing : Type 0 where
@@ -23,13 +17,13 @@ pub data Outgoing : Type 0 where
   total : Outgoing
 
 unfoldable pub reflected : Reflected → Outgoing
-reflected (R.Direction wi) = direction wi
-reflected R.None = none
+reflected (Reflected.Direction wi) = direction wi
+reflected Reflected.None = none
 
 unfoldable pub refracted : Refracted → Outgoing
-refracted (Rf.Direction wi) = direction wi
-refracted Rf.None = none
-refracted Rf.Total = total
+refracted (Refracted.Direction wi) = direction wi
+refracted Refracted.None = none
+refracted Refracted.Total = total
 
 -- ---- mirror: 2 (wo · n) n / (n · n) - wo, on wo's side of the surface
 unfoldable pub mirrored : Vec3 → Vec3 → Vec3
@@ -64,9 +58,9 @@ pub data Scattered : Type 0 where
   totally : Scattered
 
 unfoldable pub sampled : Sampled → Scattered
-sampled (S.Direction wi reflection) = scattered wi reflection
-sampled S.None = lost
-sampled S.Total = totally
+sampled (Sampled.Direction wi reflection) = scattered wi reflection
+sampled Sampled.None = lost
+sampled Sampled.Total = totally
 
 -- a mirrored or bent direction, with the branch
 unfoldable pub branch : Bool → Outgoing → Scattered

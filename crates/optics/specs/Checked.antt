@@ -1,31 +1,20 @@
 -- What the calls at the counter answer: the refusals of document 01 in its order ("At the counter"), then the value. Definitions only.
-use mathlib.Core.Bool.{Bool, _&&_}
-use mathlib.Core.List.{List}
+use mathlib.Core.{Bool.Bool, Bool._&&_, List.List}
 use lib.Ieee.{Float, lt, le}
 use Rattle.numbers.specs.Float.{_⊕_, _⊗_, f0, f1, f-1, decimal, within, isFinite}
 use Rattle.numbers.specs.DenseSpectrum.{isLookupWavelength}
 use Rattle.numbers.specs.Refusal.{number, Verdict, refuse, _then_, Answer, refused, given, _▷_}
 use Rattle.numbers.specs.Checked.{checkDirection, checkWavelength, checkLookup}
 use Rattle.numbers.specs.declared.vec3.Vec3.{Vec3}
-use Rattle.optics.specs.Surface.{Microsurface, roughnessHolds, etaHolds, kHolds, isEta, isRoughnessGiven, etaAt, kAt, surface}
-use Rattle.optics.specs.Color.{all4}
+use Rattle.optics.specs.Surface.{Kind, Surface, Microsurface, roughnessHolds, etaHolds, kHolds, isEta, isRoughnessGiven, etaAt, kAt, surface}
+use Rattle.optics.specs.Color.{Color, all4}
 use Rattle.optics.specs.Facets as Facets
 use Rattle.optics.specs.Fresnel as Fresnel
 use Rattle.optics.specs.Sampler as Sampler
 use Rattle.optics.specs.Bxdf as Bxdf
 use Rattle.optics.specs.Bxdf.{Outgoing, direction, none, total}
 use Rattle.optics.specs.Density as Density
-use Rattle.optics.specs.declared.color.Color.{Color}
-use Rattle.optics.specs.declared.microfacet.Kind.{Kind}
-use Rattle.optics.specs.declared.microfacet.Surface.{Surface}
-use Rattle.optics.specs.declared.checked.SurfaceAnswer.{SurfaceAnswer}
-use Rattle.optics.specs.declared.checked.SurfaceAnswer.the-variants as SurfaceAnswer
-use Rattle.optics.specs.declared.checked.ColorAnswer.{ColorAnswer}
-use Rattle.optics.specs.declared.checked.ColorAnswer.the-variants as ColorAnswer
-use Rattle.optics.specs.declared.checked.ReflectAnswer.{ReflectAnswer}
-use Rattle.optics.specs.declared.checked.ReflectAnswer.the-variants as ReflectAnswer
-use Rattle.optics.specs.declared.checked.RefractAnswer.{RefractAnswer}
-use Rattle.optics.specs.declared.checked.RefractAnswer.the-variants as RefractAnswer
+pub use Rattle.optics.specs.declared.checked.{SurfaceAnswer.SurfaceAnswer, ColorAnswer.ColorAnswer, ReflectAnswer.ReflectAnswer, RefractAnswer.RefractAnswer}
 
 -- ---- document 01's number and values for each case of the answers (those of numbers beside these)
 unfoldable pub surfaceAnswer : SurfaceAnswer → Answer Surface

@@ -1,7 +1,7 @@
 -- Four samples of a spectrum, one for each wavelength of a path (lumo's src/tracer/color.rs, SPECTRUM_SAMPLES = 4). Definitions only.
 use mathlib.Core.Bool.{Bool, _&&_}
 use lib.Ieee.{Float}
-use Rattle.optics.specs.declared.color.Color.{Color}
+pub use Rattle.optics.specs.declared.color.Color.{Color}
 
 abbrev pub color : Float → Float → Float → Float → Color
 color a b c d = record { s0 = a; s1 = b; s2 = c; s3 = d }

@@ -6,14 +6,11 @@ use lib.Ieee.{Float, fin, lt, eq}
 use Rattle.numbers.specs.Float.{_⊕_, _⊖_, _⊗_, _⊘_, f0, f1, abs, epsilon, powi2}
 use Rattle.numbers.specs.Vec3.{Z, add, mulFloat, negate, dot, normalize}
 use Rattle.numbers.specs.SphericalUtils.{cosTheta, sameHemisphere}
-use Rattle.numbers.specs.declared.vec2.Vec2.{Vec2}
-use Rattle.numbers.specs.declared.vec3.Vec3.{Vec3}
+use Rattle.numbers.specs.declared.{vec2.Vec2.Vec2, vec3.Vec3.Vec3}
 use Rattle.optics.specs.Facets.{isDelta, sampleNormalPdf}
 use Rattle.optics.specs.Fresnel.{fAt}
-use Rattle.optics.specs.Surface.{Microsurface, etaAt, kAt}
+use Rattle.optics.specs.Surface.{Kind, Metal, Glass, Microsurface, etaAt, kAt}
 use Rattle.optics.specs.Bxdf.{isSmooth, rest}
-use Rattle.optics.specs.declared.microfacet.Kind.{Kind}
-use Rattle.optics.specs.declared.microfacet.Kind.the-variants.{Metal, Glass}
 
 abbrev pub f4 : Float
 f4 = fin false 1 (pos 2)

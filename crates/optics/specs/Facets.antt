@@ -7,8 +7,7 @@ use Rattle.numbers.specs.Float.{_⊕_, _⊖_, _⊗_, _⊘_, f0, f1, f2, decimal
 use Rattle.numbers.specs.SquareRoot.{sqrt}
 use Rattle.numbers.specs.SphericalUtils.{cosTheta, cos2Theta, tan2Theta, cosPhi, sinPhi}
 use Rattle.numbers.specs.Vec3.{dot}
-use Rattle.numbers.specs.declared.vec2.Vec2.{Vec2}
-use Rattle.numbers.specs.declared.vec3.Vec3.{Vec3}
+use Rattle.numbers.specs.declared.{vec2.Vec2.Vec2, vec3.Vec3.Vec3}
 
 -- the double nearest to π
 abbrev pub pi : Float

@@ -1,18 +1,15 @@
 -- The Fresnel term, exact (Walter et al. 2007, eq. 22; PBR book 8.2), in the order of operations of lumo's src/tracer/microfacet.rs. Definitions only.
 -- cosO is wo · wh; eta and k are the index and the absorption at one wavelength.
-use mathlib.Core.Bool.{Bool, cond}
-use mathlib.Core.List.{List}
+use mathlib.Core.{Bool.Bool, Bool.cond, List.List}
 use lib.Ieee.{Float, lt, le, eq}
 use Rattle.numbers.specs.Float.{_⊕_, _⊖_, _⊗_, _⊘_, f0, f1, f2, max, abs, clamp}
 use Rattle.numbers.specs.SquareRoot.{sqrt}
 use Rattle.numbers.specs.Vec3.{dot}
 use Rattle.numbers.specs.Complex.{complex, mul, mulFloat, floatDiv, floatSub, floatAdd, sub, add, div, normSqr}
 use Rattle.numbers.specs.Complex as C
-use Rattle.numbers.specs.declared.complex.Complex.{Complex}
-use Rattle.numbers.specs.declared.vec3.Vec3.{Vec3}
-use Rattle.optics.specs.Color.{each}
+use Rattle.numbers.specs.declared.{complex.Complex.Complex, vec3.Vec3.Vec3}
+use Rattle.optics.specs.Color.{Color, each}
 use Rattle.optics.specs.Surface.{etaAt, kAt}
-use Rattle.optics.specs.declared.color.Color.{Color}
 
 -- ---- Snell's law, sin θo = η sin θi
 -- the index against wo's side: from below, light leaves the medium

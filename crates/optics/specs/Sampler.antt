@@ -5,8 +5,7 @@ use lib.Ieee.{Float, lt}
 use Rattle.numbers.specs.Float.{_⊕_, _⊖_, _⊗_, _⊘_, f0, f1, f2, epsilon, max}
 use Rattle.numbers.specs.SquareRoot.{sqrt}
 use Rattle.numbers.specs.Vec3.{vec3, X, Z, add, floatMul, negate, cross, normalize}
-use Rattle.numbers.specs.declared.vec2.Vec2.{Vec2}
-use Rattle.numbers.specs.declared.vec3.Vec3.{Vec3}
+use Rattle.numbers.specs.declared.{vec2.Vec2.Vec2, vec3.Vec3.Vec3}
 
 -- ---- wo in the hemisphere's configuration, on Z's side
 unfoldable pub stretched : Vec2 → Vec3 → Vec3

@@ -1,15 +1,12 @@
--- Document 01's measured samples that are to be proved (marked * there), as far as they concern this
--- crate: one conjunction. Definitions only; it is proved in proofs/Samples.antt.
-use mathlib.Core.Path.{_≡_}
-use mathlib.Core.Bool.{false}
+-- Document 01's measured samples that are to be proved (marked * there), as far as they concern this crate: one conjunction. Definitions only; it is proved in proofs/Samples.antt.
+use mathlib.Core.{Path._≡_, Bool.false}
 use lib.IntN.{negsuc}
 use lib.Ieee.{Float, fin}
 use Rattle.numbers.specs.Float.{f0, f1, f2, decimal}
 use Rattle.numbers.specs.SquareRoot.{sqrt}
 use Rattle.numbers.specs.Vec2.{vec2}
 use Rattle.numbers.specs.Vec3.{vec3, X, Z, dot}
-use Rattle.numbers.specs.declared.vec2.Vec2.{Vec2}
-use Rattle.numbers.specs.declared.vec3.Vec3.{Vec3}
+use Rattle.numbers.specs.declared.{vec2.Vec2.Vec2, vec3.Vec3.Vec3}
 use Rattle.optics.specs.Facets.{half, lambda, g, g1, gOverG1}
 use Rattle.optics.specs.Fresnel.{frReal, frComplex, fAt}
 use Rattle.optics.specs.Sampler.{sampleNormal}

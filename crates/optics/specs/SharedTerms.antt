@@ -5,8 +5,7 @@ use lib.Ieee.{Float, lt, eq}
 use Rattle.numbers.specs.Float.{_⊕_, _⊗_, _⊘_, f0, f1, f-1, epsilon, max, abs, clamp, signum}
 use Rattle.numbers.specs.SphericalUtils.{cosTheta}
 use Rattle.numbers.specs.Vec3.{dot}
-use Rattle.numbers.specs.declared.vec2.Vec2.{Vec2}
-use Rattle.numbers.specs.declared.vec3.Vec3.{Vec3}
+use Rattle.numbers.specs.declared.{vec2.Vec2.Vec2, vec3.Vec3.Vec3}
 use Rattle.optics.specs.Facets.{isDelta, lambda, masked, d}
 use Rattle.optics.specs.Bxdf.{isSmooth}
 use Rattle.optics.specs.Density.{conductorHalf, conductorPdfFrom, etaRatio, dielectricHalf, dielectricPdfFrom}

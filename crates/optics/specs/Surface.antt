@@ -1,7 +1,6 @@
 -- A surface of metal or glass, what it may hold, and its spectra at a wavelength (document 01, "Records"; lumo's `MicrofacetConfig`). Definitions only.
 use Prim.Native.Nat.{ℕ}
-use mathlib.Core.Bool.{Bool, false, _&&_, _||_, cond}
-use mathlib.Core.List.{List}
+use mathlib.Core.{Bool.Bool, Bool.false, Bool._&&_, Bool._||_, Bool.cond, List.List}
 use lib.Ieee.{Float, fin}
 use lib.IntN.{pos}
 use lib.Dec.{eqb, leb}
@@ -9,9 +8,7 @@ use Rattle.numbers.specs.Float.{f0, f1, decimal, max, within}
 use Rattle.numbers.specs.DenseSpectrum.{isTable, sampleOne, isConstant, allWithin}
 use Rattle.numbers.specs.Vec2.{splat}
 use Rattle.numbers.specs.declared.vec2.Vec2.{Vec2}
-use Rattle.optics.specs.declared.microfacet.Kind.{Kind}
-use Rattle.optics.specs.declared.microfacet.Kind.the-variants.{Metal, Glass}
-use Rattle.optics.specs.declared.microfacet.Surface.{Surface}
+pub use Rattle.optics.specs.declared.microfacet.{Kind.Kind, Kind.the-variants.Metal, Kind.the-variants.Glass, Surface.Surface}
 
 -- ---- a kind's code, wherever a kind is a number: 0 metal, 1 glass (02 (vi) has the same)
 unfoldable pub kindCode : Kind → ℕ

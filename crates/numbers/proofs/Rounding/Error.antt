@@ -9,7 +9,7 @@ use native.Mathlib.Omega.{arith}
 use mathlib.Core.Bool.{Bool, true, false, not}
 use lib.Dec.{T, lit<}
 use lib.IntN.{pos}
-use lib.Ieee.{Float, nan, inf, fin, Format, binary64, unlike, size, neg, add, mul, div, le, fits}
+use lib.Ieee.{Float, nan, inf, fin, Format, binary64, unlike, neg, add, mul, div, le, fits}
 use lib.Ieee.Fits.{add-fits, div-fits, mul-fits, neg-fits}
 use lib.Ieee.Scale.{finite}
 use Rattle.numbers.proofs.Rounding.{rnd, Near, rnd-all, rnd-whole}

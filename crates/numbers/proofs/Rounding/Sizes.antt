@@ -20,7 +20,7 @@ use Rattle.numbers.proofs.Rounding.Units.{U, O, U-is, U-pos, Is, is-of,
 use Rattle.numbers.proofs.Rounding.NonNegative.{Ext, none-below, rnd-le, Fine, fine-under}
 use Rattle.numbers.proofs.Rounding.Error.{Fin, P, N, M, le-parts, neg-parts, sum-mag, unit-fin, m1-is, one-side, sized, div-sized, parts}
 use Rattle.numbers.proofs.square_root.WholeRoot.{RootErr}
-use Rattle.numbers.proofs.Rounding.SignedPoly.{R, ab, Q, Bd, from-bd}
+use Rattle.numbers.proofs.Rounding.SignedPoly.{ab, Q, Bd, from-bd}
 use Rattle.numbers.proofs.Rounding.Expression.{rv, pow1, Fl, flo, mg, tame, closed, Vars, sound, size-mag}
 use Rattle.numbers.proofs.square_root.RootOrZero.{max-pos, rooted}
 use Rattle.numbers.specs.Float.{_⊘_, f0, f1, f2, f-1, max}

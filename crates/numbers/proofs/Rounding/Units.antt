@@ -2,7 +2,7 @@
 -- is finite, has the sign s, and is n units in size. One is U units; from O units on a value is the infinity.
 -- Proved: every finite value of the format has a sign and a size that rounding does not change (`is-of`), and they
 -- determine it (`unique`); the order (`le-of-below`, `below-of-le`), the rounding (`round-units`, `round-over`)
--- and the operations (`neg-is`, `add-is` with `sum-is`, `mul-is`, `div-is`) by sign and units.
+-- and the operations (`neg-is`, `add-is` with `sum-is`, `mul-is`, `div-is`) by sign and units; a product of any two is the same in either order (`product-comm`).
 -- The fractions that the kit's definitions hold are brought over U; two values are the
 -- same since their bit patterns are made from sign and units alone.
 use mathlib.Core.Path.{_≡_, refl, sym, ap, _∙_, subst}
@@ -288,6 +288,26 @@ unfolding add
 add-nan nan = refl
 add-nan (inf s) = refl
 add-nan (fin s m e) = refl
+
+unlike-comm : (s t : Bool) → unlike s t ≡ unlike t s
+unlike-comm true true = refl
+unlike-comm true false = refl
+unlike-comm false true = refl
+unlike-comm false false = refl
+
+-- a product is the same in either order, in any format
+pub product-comm : (f : Format) (x y : Float) → mul f x y ≡ mul f y x
+unfolding mul
+product-comm f nan nan = refl
+product-comm f nan (inf t) = refl
+product-comm f nan (fin t n d) = refl
+product-comm f (inf s) nan = refl
+product-comm f (inf s) (inf t) = rw (unlike-comm s t)
+product-comm f (inf s) (fin t n d) = rw (unlike-comm s t)
+product-comm f (fin s m e) nan = refl
+product-comm f (fin s m e) (inf t) = rw (unlike-comm s t)
+product-comm f (fin s m e) (fin t n d) =
+    rw (unlike-comm s t, mul-comm (m * up e) (n * up d), mul-comm (down e) (down d))
 
 pub mul-is : (x y : Float) (s t : Bool) (a b : ℕ) → Is x s a → Is y t b → mul B x y ≡ round B (unlike s t) (a * b) (U * U)
 unfolding mul

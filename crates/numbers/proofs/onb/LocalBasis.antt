@@ -11,7 +11,7 @@ use native.Mathlib.Omega.{arith}
 use lib.Dec.{T, lit≤, lit<}
 use lib.ListN.{getD}
 use lib.Pow.{pow-pos}
-use lib.Ieee.{Float, fin}
+use lib.Ieee.{Float}
 use Rattle.numbers.proofs.Rounding.{below-or-from}
 use Rattle.numbers.proofs.Rounding.Units.{U, U-pos, sign}
 use Rattle.numbers.proofs.Rounding.Error.{Fin, unit-fin}

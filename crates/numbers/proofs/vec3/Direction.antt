@@ -16,7 +16,7 @@ use Rattle.numbers.proofs.Rounding.{rnd, Near, rnd-fix, rnd-mono, rnd-i
 use Rattle.numbers.proofs.Rounding.Units.{U, O, U-pos, is-of, sign, mag, add-nan}
 use Rattle.numbers.proofs.Rounding.NonNegative.{Ext, le-ext, add-ext, rnd-O, two-U, two-O, square-ext, rnd-ge}
 use Rattle.numbers.proofs.Rounding.Error.{Fin, P, N, M, M/2, le-parts, div-err, unit-fin, m1-is}
-use Rattle.numbers.proofs.Rounding.SignedPoly.{R, _⊞_, _⊠_, inv, nat, Ex, va, _∔_, _⋆_, minus, at, vanishes, ab, ab-add, ab-inv, ab-nat, ab-mul, ab-poly, Q, Bd, bd-more, bd-add, bd-inv, bd-mul, sc, bd-sc, lift, from-bd}
+use Rattle.numbers.proofs.Rounding.SignedPoly.{R, _⊞_, _⊠_, inv, nat, Ex, va, _∔_, _⋆_, minus, vanishes, ab, ab-add, ab-inv, ab-nat, ab-mul, ab-poly, Q, Bd, bd-more, bd-add, bd-inv, bd-mul, sc, bd-sc, lift, from-bd}
 use Rattle.numbers.proofs.Rounding.Expression.{rv, size-ab, pow1, pow2, ulp, add-bd, Fl, fv, _+ᶠ_, _*ᶠ_, pd, ex, mg, er, tame, closed, Sound, sound, size-mag}
 use Rattle.numbers.specs.declared.vec3.Vec3.{Vec3}
 use Rattle.numbers.specs.Float.{_⊕_, _⊗_, f-1, decimal, within, signum}

@@ -8,7 +8,7 @@ use native.Mathlib.Nat.{le-trans, le-of-eq, lt-of-le-of-lt, lt-of-lt-of-le, not-
 use native.Mathlib.Omega.{arith}
 use lib.Dec.{lit≤, lit<}
 use mathlib.Core.Bool.{false}
-use lib.Ieee.{Float, fin, Format, binary64, up, down}
+use lib.Ieee.{Float, Format, binary64}
 use lib.Ieee.Fits.{add-fits}
 use Rattle.numbers.proofs.Rounding.{rnd, Near, rnd-whole, rnd-all, below-or-from}
 use Rattle.numbers.proofs.Rounding.Units.{U, O, U-pos, Is, is-of, sign, mag}
