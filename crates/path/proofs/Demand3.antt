@@ -30,7 +30,7 @@ use Rattle.optics.specs.Color.{all4}
 use Rattle.path.specs.Path.{path, ones, leading, terminate, isFilter, weighed}
 use Rattle.path.specs.Bounce.{advanced, checkBounce, leftOnGlass, leftOn, lambdaOn, localWo, share, scatter, weightsFrom, weights}
 use Rattle.path.specs.Reckoning.{unlessRefused, reckon}
-use Rattle.path.specs.Answer.{Outcome, lost, outcome, densityOf, density, sharesOn, shares, branchOf, worked, onSurface, answered, bounce, pathOf}
+use Rattle.path.specs.Answer.{Outcome, outcome, densityOf, density, sharesOn, shares, branchOf, worked, onSurface, answered, bounce, pathOf}
 use Rattle.path.specs.Demand3.{F64, ColorF64, Step, StepF64, AllFell, SharesHold, DensityHolds, AnswerHolds, Run, end, bounced, Throughout, Demand3, NeverTotal}
 use Rattle.path.proofs.Checks.{accepted-of}
 use Rattle.path.proofs.Weights.{Weight, whole, weighed-down, weight-from}

@@ -8,23 +8,11 @@ use Rattle.numbers.specs.Refusal.{number, Answer, refused, given, Verdict, acce
 use Rattle.numbers.specs.declared.vec3.Vec3.{Vec3}
 use Rattle.optics.specs.Surface.{Microsurface}
 use Rattle.optics.specs.Bxdf.{Scattered, scattered, totally, rest}
-use Rattle.optics.specs.Bxdf as Bxdf
 use Rattle.optics.specs.Density.{pdf}
-use Rattle.optics.specs.declared.color.Color.{Color}
-use Rattle.optics.specs.declared.microfacet.Kind.{Kind}
-use Rattle.optics.specs.declared.microfacet.Kind.the-variants.{Metal, Glass}
-use Rattle.path.specs.declared.records.Path.{Path}
-use Rattle.path.specs.declared.records.Bounce.{Bounce}
-use Rattle.path.specs.declared.records.Started.{Started}
-use Rattle.path.specs.declared.records.Started.the-variants as St
-use Rattle.path.specs.declared.records.Density.{Density}
-use Rattle.path.specs.declared.records.Density.the-variants as D
-use Rattle.path.specs.declared.records.Shares.{Shares}
-use Rattle.path.specs.declared.records.Shares.the-variants as S
-use Rattle.path.specs.declared.records.Bounced.{Bounced}
-use Rattle.path.specs.declared.records.Bounced.the-variants as B
-use Rattle.path.specs.Path.{leading}
-use Rattle.path.specs.Bounce.{advanced, checkBounce, lambdaOn, localWo, share, scatter}
+use Rattle.optics.specs.declared.{color.Color.Color, microfacet.Kind.Kind, microfacet.Kind.the-variants.Metal, microfacet.Kind.the-variants.Glass}
+pub use Rattle.path.specs.declared.records.{Started.Started, Density.Density, Shares.Shares, Bounced.Bounced}
+use Rattle.path.specs.Path.{Path, leading}
+use Rattle.path.specs.Bounce.{Bounce, advanced, checkBounce, lambdaOn, localWo, share, scatter}
 
 -- ---- the cases: refused by a number, with the path as it was; lost; reflected or passed
 pub data Outcome : Type 0 where
@@ -33,27 +21,27 @@ pub data Outcome : Type 0 where
   reflected passed : Vec3 → Density → Shares → Path → Outcome
 
 unfoldable pub outcome : Bounced → Outcome
-outcome (B.Refused why p) = refusal (number why) p
-outcome (B.Lost shares p) = lost shares p
-outcome (B.Reflected wi density shares p) = reflected wi density shares p
-outcome (B.Passed wi density shares p) = passed wi density shares p
+outcome (Bounced.Refused why p) = refusal (number why) p
+outcome (Bounced.Lost shares p) = lost shares p
+outcome (Bounced.Reflected wi density shares p) = reflected wi density shares p
+outcome (Bounced.Passed wi density shares p) = passed wi density shares p
 
 unfoldable pub started : Started → Answer Path
-started (St.Refused why) = refused (number why)
-started (St.Path p) = given p
+started (Started.Refused why) = refused (number why)
+started (Started.Path p) = given p
 
 -- ---- what they carry
 -- the density of local wo and wi with the branch as its reflection flag, or the word "not finite"
 unfoldable pub densityOf : Float → Density
-densityOf x = cond (isFinite x) (D.Finite x) D.NotFinite
+densityOf x = cond (isFinite x) (Density.Finite x) Density.NotFinite
 
 unfoldable pub density : Microsurface → Color → Bounce → Vec3 → Bool → Density
 density m lambda b wi reflection = densityOf (pdf m (localWo b) wi reflection (leading lambda))
 
 -- F and 1 - F at the leading wavelength, on glass alone
 unfoldable pub sharesOn : Kind → Float → Shares
-sharesOn Metal F = S.None
-sharesOn Glass F = S.Of F (rest F)
+sharesOn Metal F = Shares.None
+sharesOn Glass F = Shares.Of F (rest F)
 
 unfoldable pub shares : Microsurface → Color → Bounce → Shares
 shares m lambda b = sharesOn (m .kind) (share m lambda b)
@@ -67,7 +55,7 @@ branchOf false wi density shares next = passed wi density shares next
 unfoldable pub worked : Scattered → Microsurface → Color → Bounce → Path → Outcome
 worked (scattered wi reflection) m lambda b next =
     branchOf reflection (toWorld (basis (b .normal)) wi) (density m lambda b wi reflection) (shares m lambda b) next
-worked Bxdf.lost m lambda b next = lost (shares m lambda b) next
+worked Scattered.lost m lambda b next = lost (shares m lambda b) next
 worked totally m lambda b next = lost (shares m lambda b) next
 
 -- a bounce that is not refused

@@ -1,13 +1,11 @@
 -- A bounce on metal or glass: its checks, what is sampled, and the weight of each wavelength (document 01, "Bounce"). Definitions only.
 -- `lambda` is the path's wavelengths that are left: on glass whose eta varies, two to four have ended.
-use mathlib.Core.Bool.{Bool, cond}
-use mathlib.Core.List.{List}
+use mathlib.Core.{Bool.Bool, Bool.cond, List.List}
 use lib.Ieee.{Float, isNan, le, eq}
 use Rattle.numbers.specs.Float.{_⊗_, f0, f1}
 use Rattle.numbers.specs.Onb.{basis, toLocal}
 use Rattle.numbers.specs.DenseSpectrum.{terminated}
-use Rattle.numbers.specs.declared.vec2.Vec2.{Vec2}
-use Rattle.numbers.specs.declared.vec3.Vec3.{Vec3}
+use Rattle.numbers.specs.declared.{vec2.Vec2.Vec2, vec3.Vec3.Vec3}
 use Rattle.optics.specs.Color.{all4}
 use Rattle.optics.specs.Surface.{Microsurface, etaAt, kAt, constantEta}
 use Rattle.optics.specs.Facets.{isDelta, gOverG1}
@@ -16,12 +14,9 @@ use Rattle.optics.specs.Bxdf.{Scattered, scattered, lost, totally, conductorNor
 use Rattle.numbers.specs.Refusal.{Verdict, _then_, refuse}
 use Rattle.numbers.specs.Checked.{checkDirection}
 use Rattle.optics.specs.Checked.{checkSurface, checkRandom, checkCirclePair}
-use Rattle.optics.specs.declared.color.Color.{Color}
-use Rattle.optics.specs.declared.microfacet.Kind.{Kind}
-use Rattle.optics.specs.declared.microfacet.Kind.the-variants.{Metal, Glass}
-use Rattle.path.specs.declared.records.Path.{Path}
-use Rattle.path.specs.declared.records.Bounce.{Bounce}
-use Rattle.path.specs.Path.{path, each2, each3, weighed, leading, terminate, isPathLambda, isPower, isFilter}
+use Rattle.optics.specs.declared.{color.Color.Color, microfacet.Kind.Kind, microfacet.Kind.the-variants.Metal, microfacet.Kind.the-variants.Glass}
+pub use Rattle.path.specs.declared.records.Bounce.{Bounce}
+use Rattle.path.specs.Path.{Path, path, each2, each3, weighed, leading, terminate, isPathLambda, isPower, isFilter}
 
 -- ---- the checks, in 01's order ("At the counter")
 -- all but the surface's

@@ -1,6 +1,5 @@
 -- Demand 3 of the contract, as one statement over a list of bounces. Definitions only; it is proved in proofs/Demand3.antt.
-use mathlib.Core.Path.{_≡_}
-use mathlib.Core.List.{List, [], _∷_}
+use mathlib.Core.{Path._≡_, List.List, List.[], List._∷_}
 use lib.Dec.{T}
 use lib.Ieee.{Float, binary64, fits, le}
 use Rattle.numbers.specs.Float.{_⊕_, _⊖_, f0, f1, isFinite}
@@ -8,19 +7,10 @@ use Rattle.numbers.specs.declared.vec3.Vec3.{Vec3}
 use Rattle.optics.specs.Surface.{Microsurface}
 use Rattle.optics.specs.Bxdf.{totally}
 use Rattle.numbers.specs.Refusal.{accepted}
-use Rattle.optics.specs.declared.color.Color.{Color}
-use Rattle.optics.specs.declared.microfacet.Kind.{Kind}
-use Rattle.optics.specs.declared.microfacet.Kind.the-variants.{Metal, Glass}
-use Rattle.path.specs.declared.records.Path.{Path}
-use Rattle.path.specs.declared.records.Bounce.{Bounce}
-use Rattle.path.specs.declared.records.Density.{Density}
-use Rattle.path.specs.declared.records.Density.the-variants as D
-use Rattle.path.specs.declared.records.Shares.{Shares}
-use Rattle.path.specs.declared.records.Shares.the-variants as S
-use Rattle.path.specs.declared.records.Bounced.{Bounced}
-use Rattle.path.specs.Bounce.{checkBounce, lambdaOn, scatter}
-use Rattle.path.specs.Answer.{Outcome, refusal, lost, reflected, passed, outcome, bounce, pathOf}
-use Rattle.path.specs.Path.{path, ones}
+use Rattle.optics.specs.declared.{color.Color.Color, microfacet.Kind.Kind, microfacet.Kind.the-variants.Metal, microfacet.Kind.the-variants.Glass}
+use Rattle.path.specs.Bounce.{Bounce, checkBounce, lambdaOn, scatter}
+use Rattle.path.specs.Answer.{Density, Shares, Bounced, Outcome, refusal, lost, reflected, passed, outcome, bounce, pathOf}
+use Rattle.path.specs.Path.{Path, path, ones}
 use Rattle.path.specs.Reckoning.{reckon}
 
 -- ---- the numbers that go in are values of binary64: every f64 is
@@ -69,15 +59,15 @@ FromZeroToOne x = T (le f0 x) × T (le x f1)
 
 -- on glass there are shares, F and 1 - F, they lie from 0 to 1, and their one rounded sum is exactly 1.0; metal has none
 abbrev pub SharesHold : Kind → Shares → Type 0
-SharesHold Metal (S.Of F rest) = ⊥
-SharesHold Metal S.None = Unit
-SharesHold Glass S.None = ⊥
-SharesHold Glass (S.Of F rest) = (rest ≡ f1 ⊖ F) × FromZeroToOne F × FromZeroToOne rest × (F ⊕ rest ≡ f1)
+SharesHold Metal (Shares.Of F rest) = ⊥
+SharesHold Metal Shares.None = Unit
+SharesHold Glass Shares.None = ⊥
+SharesHold Glass (Shares.Of F rest) = (rest ≡ f1 ⊖ F) × FromZeroToOne F × FromZeroToOne rest × (F ⊕ rest ≡ f1)
 
 -- a density that is handed out is finite and not below 0
 abbrev pub DensityHolds : Density → Type 0
-DensityHolds (D.Finite x) = T (isFinite x) × T (le f0 x)
-DensityHolds D.NotFinite = Unit
+DensityHolds (Density.Finite x) = T (isFinite x) × T (le f0 x)
+DensityHolds Density.NotFinite = Unit
 
 abbrev pub AnswerHolds : Kind → Outcome → Type 0
 AnswerHolds kind (refusal n p) = Unit

@@ -1,7 +1,6 @@
 -- Many bounces on one surface, each on a path of its own: 27 numbers in, 18 out. Definitions only.
 use Prim.Native.Nat.{ℕ, zero, suc, _*_, _/_}
-use mathlib.Core.Bool.{Bool, cond}
-use mathlib.Core.List.{List, [], _∷_, _++_}
+use mathlib.Core.{Bool.Bool, Bool.cond, List.List, List.[], List._∷_, List._++_}
 use lib.Dec.{leb}
 use lib.Ieee.{Float, nan, binary64, ne, ofInt}
 use lib.IntN.{pos}
@@ -11,11 +10,9 @@ use Rattle.numbers.specs.Vec3.{vec3}
 use Rattle.optics.specs.Color.{color}
 use Rattle.optics.specs.Surface.{Microsurface}
 use Rattle.path.specs.Answer.{Outcome, bounce, pathOf}
-use Rattle.path.specs.declared.records.Bounce.{Bounce}
-use Rattle.path.specs.declared.records.Path.{Path}
-use Rattle.path.specs.declared.plain.BounceResult.{BounceResult}
-use Rattle.path.specs.Path.{path}
-use Rattle.path.specs.Plain.{bounceResult}
+use Rattle.path.specs.Bounce.{Bounce}
+use Rattle.path.specs.Path.{Path, path}
+use Rattle.path.specs.Plain.{BounceResult, bounceResult}
 
 -- ---- in: the path at 0 to 7, then the bounce's other arguments
 -- the number at a place of a list, and NaN past its end

@@ -6,7 +6,7 @@ use Rattle.numbers.specs.DenseSpectrum.{terminated, isWavelength, isLookupWavel
 use Rattle.numbers.specs.Refusal.{Answer, given, refuse, _▷_}
 use Rattle.optics.specs.Color.{color, all4}
 use Rattle.optics.specs.declared.color.Color.{Color}
-use Rattle.path.specs.declared.records.Path.{Path}
+pub use Rattle.path.specs.declared.records.Path.{Path}
 
 abbrev pub path : Color → Color → Path
 path lambda power = record { lambda = lambda; power = power }

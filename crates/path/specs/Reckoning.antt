@@ -1,9 +1,8 @@
 -- The product of weights (document 01, "Bounce": the reckoning beside the program). It is fed each bounce's arguments but the path, and reads no answer and no returned path. Definitions only.
 use Rattle.optics.specs.Surface.{Microsurface}
 use Rattle.numbers.specs.Refusal.{Verdict, accepted, rejected}
-use Rattle.path.specs.declared.records.Path.{Path}
-use Rattle.path.specs.declared.records.Bounce.{Bounce}
-use Rattle.path.specs.Bounce.{checkBounce, advanced}
+use Rattle.path.specs.Path.{Path}
+use Rattle.path.specs.Bounce.{Bounce, checkBounce, advanced}
 
 -- a refused bounce changes nothing
 unfoldable pub unlessRefused : Verdict → Path → Path → Path

@@ -1,8 +1,6 @@
 -- Document 01's measured samples that are to be proved (marked * there): those of whole bounces, and with those of the crates below ONE conjunction (`AllSamples`).
 -- Definitions only; it is proved in proofs/Samples.antt. The bounces are at wavelengths of the grid, where a constant spectrum reads as its entry.
-use mathlib.Core.Path.{_≡_}
-use mathlib.Core.Bool.{false}
-use mathlib.Core.List.{List}
+use mathlib.Core.{Path._≡_, Bool.false, List.List}
 use lib.IntN.{pos}
 use lib.ListN.{replicate}
 use lib.Ieee.{Float, fin}
@@ -15,13 +13,10 @@ use Rattle.optics.specs.Surface.{Microsurface, microsurface, surface}
 use Rattle.optics.specs.Facets.{half}
 use Rattle.optics.specs.Samples as Optics
 use Rattle.optics.specs.Samples.{quarter, three-quarters}
-use Rattle.optics.specs.declared.color.Color.{Color}
-use Rattle.optics.specs.declared.microfacet.Kind.the-variants.{Metal, Glass}
-use Rattle.path.specs.declared.records.Bounce.{Bounce}
-use Rattle.path.specs.declared.records.Density.the-variants as D
-use Rattle.path.specs.declared.records.Shares.the-variants as S
+use Rattle.optics.specs.declared.{color.Color.Color, microfacet.Kind.the-variants.Metal, microfacet.Kind.the-variants.Glass}
+use Rattle.path.specs.Bounce.{Bounce}
 use Rattle.path.specs.Path.{path}
-use Rattle.path.specs.Answer.{bounce, reflected, passed}
+use Rattle.path.specs.Answer.{Density, Shares, bounce, reflected, passed}
 
 abbrev pub all : Float → Color
 all x = color x x x x
@@ -46,11 +41,11 @@ along u = record { wo = Z; normal = Z; backface = false; u = u; disk = f0; c = f
 
 pub record Samples : Type 0 where
   -- delta metal, n 1, k 2, ks 1, wo = normal = Z: reflected to Z, powers 0.5, density 1.0; again: 0.25
-  pub metal-once : bounce (path grid (all f1)) deltaMetal (along f0) ≡ reflected Z (D.Finite f1) S.None (path grid (all half))
-  pub metal-again : bounce (path grid (all half)) deltaMetal (along f0) ≡ reflected Z (D.Finite f1) S.None (path grid (all quarter))
+  pub metal-once : bounce (path grid (all f1)) deltaMetal (along f0) ≡ reflected Z (Density.Finite f1) Shares.None (path grid (all half))
+  pub metal-again : bounce (path grid (all half)) deltaMetal (along f0) ≡ reflected Z (Density.Finite f1) Shares.None (path grid (all quarter))
   -- delta glass, eta 3, wo = normal = Z: u 0.2 reflects, density 0.25; u 0.25 passes to (0, 0, -1), density 0.75; shares 0.25 and 0.75
-  pub glass-reflects : bounce (path grid (all f1)) deltaGlass (along (decimal 2 10)) ≡ reflected Z (D.Finite quarter) (S.Of quarter three-quarters) (path grid (all f1))
-  pub glass-passes : bounce (path grid (all f1)) deltaGlass (along quarter) ≡ passed (vec3 f0 f0 f-1) (D.Finite three-quarters) (S.Of quarter three-quarters) (path grid (all f1))
+  pub glass-reflects : bounce (path grid (all f1)) deltaGlass (along (decimal 2 10)) ≡ reflected Z (Density.Finite quarter) (Shares.Of quarter three-quarters) (path grid (all f1))
+  pub glass-passes : bounce (path grid (all f1)) deltaGlass (along quarter) ≡ passed (vec3 f0 f0 f-1) (Density.Finite three-quarters) (Shares.Of quarter three-quarters) (path grid (all f1))
 
 -- the starred samples of document 01, all of them
 abbrev pub AllSamples : Type 0
