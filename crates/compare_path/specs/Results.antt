@@ -4,9 +4,7 @@ use Rattle.numbers.specs.declared.onb.Onb.{Onb}
 use Rattle.numbers.specs.Refusal.{Answer, refused, given}
 use Rattle.optics.specs.Bxdf.{Scattered, scattered, lost, totally}
 use Rattle.rulvimba.specs.Results.{zero3}
-use Rattle.compare_path.specs.declared.results.BoolResult.{BoolResult}
-use Rattle.compare_path.specs.declared.results.OnbResult.{OnbResult}
-use Rattle.compare_path.specs.declared.results.ScatteredResult.{ScatteredResult}
+pub use Rattle.compare_path.specs.declared.results.{BoolResult.BoolResult, OnbResult.OnbResult, ScatteredResult.ScatteredResult}
 
 unfoldable pub boolResult : Answer Bool → BoolResult
 boolResult (refused n) = record { number = n; value = false }

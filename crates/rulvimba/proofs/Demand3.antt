@@ -13,7 +13,7 @@ use Rattle.numbers.specs.Float.{f0, isFinite}
 use Rattle.numbers.specs.Refusal.{number, Verdict, accepted, rejected, _then_, refuse, _▷_}
 use Rattle.numbers.specs.declared.refusal.Refusal.{Refusal}
 use Rattle.numbers.specs.declared.refusal.Refusal.the-variants as W
-use Rattle.optics.specs.Surface.{Microsurface}
+use Rattle.optics.specs.Surface.{Microsurface, kindCode, kindOf}
 use Rattle.optics.specs.Bxdf.{Scattered, scattered, totally}
 use Rattle.optics.specs.Bxdf as Bxdf
 use Rattle.optics.specs.declared.color.Color.{Color}
@@ -38,7 +38,6 @@ use Rattle.path.specs.Demand3.{ColorF64, SharesHold, DensityHolds, AnswerHolds,
 use Rattle.path.proofs.Demand3.{demand-3}
 use Rattle.path.proofs.Answers.{answers}
 use Rattle.rulvimba.specs.declared.surfaces.SurfaceRecord.{SurfaceRecord}
-use Rattle.optics.specs.Surface.{kindCode, kindOf}
 use Rattle.rulvimba.specs.Surfaces.{surfaceOf, surfaceWith}
 use Rattle.rulvimba.specs.Paths.{numbersOf, startNumber, pathStarted, pathAfter}
 use Rattle.rulvimba.specs.Demand3.{Laid, Call, stepOf, Calls, done, called, AfterEach, Demand3}

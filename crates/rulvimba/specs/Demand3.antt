@@ -1,24 +1,16 @@
 -- Demand 3 of the contract through the C library: a list of calls of rulvimba_bounce on one path in the caller's memory, after rulvimba_start. Definitions only; it is proved in proofs/Demand3.antt.
 -- What holds is said of the doubles by their places (`Laid`): the definitions that read a path from memory and write one come in by the contracts of the calls alone.
 use Prim.Native.Nat.{ℕ, _<_}
-use mathlib.Core.Path.{_≡_}
-use mathlib.Core.Bool.{true, false}
-use mathlib.Core.List.{List}
+use mathlib.Core.{Path._≡_, Bool.true, Bool.false, List.List}
 use lib.Ieee.{Float}
 use lib.ListN.{length}
-use Rattle.optics.specs.declared.color.Color.{Color}
-use Rattle.optics.specs.declared.microfacet.Kind.the-variants.{Glass}
+use Rattle.optics.specs.declared.{color.Color.Color, microfacet.Kind.the-variants.Glass}
 use Rattle.path.specs.Path.{path, ones, isStart}
 use Rattle.path.specs.Many.{at}
 use Rattle.path.specs.Reckoning.{reckon}
 use Rattle.path.specs.Demand3.{ColorF64, Step, StepF64, Fell, SharesHold, DensityHolds}
-use Rattle.path.specs.declared.records.Path.{Path}
-use Rattle.path.specs.declared.records.Bounce.{Bounce}
-use Rattle.path.specs.declared.records.Density.the-variants.{Finite}
-use Rattle.path.specs.declared.records.Shares.the-variants.{Of}
-use Rattle.path.specs.declared.plain.BounceResult.{BounceResult}
-use Rattle.rulvimba.specs.declared.surfaces.SurfaceRecord.{SurfaceRecord}
-use Rattle.rulvimba.specs.Surfaces.{surfaceWith}
+use Rattle.path.specs.declared.{records.Path.Path, records.Bounce.Bounce, records.Density.the-variants.Finite, records.Shares.the-variants.Of, plain.BounceResult.BounceResult}
+use Rattle.rulvimba.specs.Surfaces.{SurfaceRecord, surfaceWith}
 use Rattle.rulvimba.specs.Paths.{StartCall, BounceCall}
 
 -- ---- memory: eight doubles, the wavelengths of a path at 0 to 3 and its powers at 4 to 7

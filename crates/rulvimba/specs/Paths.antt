@@ -1,7 +1,6 @@
 -- A path in the caller's memory: eight numbers, four wavelengths and then four powers. Definitions only.
 use Prim.Native.Nat.{ℕ}
-use mathlib.Core.Path.{_≡_}
-use mathlib.Core.List.{List, [], _∷_}
+use mathlib.Core.{Path._≡_, List.List, List.[], List._∷_}
 use lib.Ieee.{Float}
 use Rattle.numbers.specs.Refusal.{Answer, refused, given}
 use Rattle.optics.specs.declared.color.Color.{Color}
@@ -9,11 +8,8 @@ use Rattle.path.specs.Path.{start}
 use Rattle.path.specs.Answer.{Outcome, refusal, lost, reflected, passed, bounce}
 use Rattle.path.specs.Plain.{bounceResult}
 use Rattle.path.specs.Many.{pathIn}
-use Rattle.path.specs.declared.records.Path.{Path}
-use Rattle.path.specs.declared.records.Bounce.{Bounce}
-use Rattle.path.specs.declared.plain.BounceResult.{BounceResult}
-use Rattle.rulvimba.specs.declared.surfaces.SurfaceRecord.{SurfaceRecord}
-use Rattle.rulvimba.specs.Surfaces.{surfaceWith}
+use Rattle.path.specs.declared.{records.Path.Path, records.Bounce.Bounce, plain.BounceResult.BounceResult}
+use Rattle.rulvimba.specs.Surfaces.{SurfaceRecord, surfaceWith}
 
 unfoldable pub numbersOf : Path → List Float
 numbersOf p =
@@ -40,8 +36,7 @@ pathAfter before (lost shares p) = numbersOf p
 pathAfter before (reflected wi density shares p) = numbersOf p
 pathAfter before (passed wi density shares p) = numbersOf p
 
--- the contract of rulvimba_bounce, which reads its path from memory,
--- returns r and leaves `after` where `before` was
+-- the contract of rulvimba_bounce, which reads its path from memory, returns r and leaves `after` where `before` was
 abbrev pub BounceCall : List Float → SurfaceRecord → List Float → List Float → Bounce → BounceResult → List Float → Type 0
 BounceCall before s eta k b r after =
     let answer = bounce (pathIn before) (surfaceWith s eta k) b in

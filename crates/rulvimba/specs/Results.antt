@@ -8,10 +8,7 @@ use Rattle.numbers.specs.declared.vec3.Vec3.{Vec3}
 use Rattle.optics.specs.Bxdf.{Outgoing, direction, none, total}
 use Rattle.optics.specs.Color.{color}
 use Rattle.optics.specs.declared.color.Color.{Color}
-use Rattle.rulvimba.specs.declared.records.FloatResult.{FloatResult}
-use Rattle.rulvimba.specs.declared.records.ColorResult.{ColorResult}
-use Rattle.rulvimba.specs.declared.records.Vec3Result.{Vec3Result}
-use Rattle.rulvimba.specs.declared.records.DirectionResult.{DirectionResult}
+pub use Rattle.rulvimba.specs.declared.records.{FloatResult.FloatResult, ColorResult.ColorResult, Vec3Result.Vec3Result, DirectionResult.DirectionResult}
 
 abbrev pub zero3 : Vec3
 zero3 = vec3 f0 f0 f0

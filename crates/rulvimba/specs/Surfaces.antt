@@ -1,15 +1,13 @@
 -- Surfaces laid out for C, their kind by its code. Definitions only.
 use Prim.Native.Nat.{ℕ}
-use mathlib.Core.Bool.{cond}
-use mathlib.Core.List.{List}
+use mathlib.Core.{Bool.cond, List.List}
 use lib.Ieee.{Float, nan}
 use Rattle.numbers.specs.Float.{f0}
 use Rattle.numbers.specs.Vec2.{vec2}
 use Rattle.numbers.specs.Refusal.{Answer, refused, given}
 use Rattle.optics.specs.Surface.{Microsurface, microsurface, kindCode, isKindCode, kindOf}
 use Rattle.optics.specs.declared.microfacet.Surface.{Surface}
-use Rattle.rulvimba.specs.declared.surfaces.SurfaceRecord.{SurfaceRecord}
-use Rattle.rulvimba.specs.declared.surfaces.SurfaceResult.{SurfaceResult}
+pub use Rattle.rulvimba.specs.declared.surfaces.{SurfaceRecord.SurfaceRecord, SurfaceResult.SurfaceResult}
 
 -- a kind that is neither has a roughness that no check accepts, so that its surface is refused as 1
 unfoldable pub roughnessOf : ℕ → Float → Float
