@@ -155,10 +155,12 @@ fn is_normal(x: f64) -> bool
 }
 
 // A guess at the root of x, from its bit pattern: y0, the reciprocal root by the pattern's halved
-// exponent; y, which is within 2 ^ -15 of it, by a quadratic in x * y0 * y0 that is fitted to the range
-// that this has; and from s, which is x * y, the root by three terms of its series in r. Adding the large
-// number and taking it away leaves h with half the digits of s, so that h * h is exact, and
-// r is x - s * s nearly as if nothing had been rounded: one guess in a thousand is not the root.
+// exponent; t, a quadratic in z = x * y0 * y0 that is fitted to the range that this has, so that y = y0 * t
+// is within 2 ^ -15 of the reciprocal root and s = x * y of the root; and from s the root by three terms of
+// its series in r. Adding the large number and taking it away leaves h with half the digits of s, so that
+// h * h is exact, and r is x - s * s nearly as if nothing had been rounded: one guess in a thousand is not
+// the root. The order of the products is that in which they are soonest ready: what a root waits for is
+// the longest chain of them, and not their number.
 // Nothing is promised but that it is a double: `is_root` finds out whether it is right.
 fn guess(x: f64) -> f64
     requires { ⌜ IsNormal x ⌝ }
@@ -166,14 +168,16 @@ fn guess(x: f64) -> f64
 {
     let bits = f64::to_bits(x);
     let y0 = f64::from_bits(0x5fe4000000000000 - bits / 2);
-    let d = x * y0 * y0 - 1.3276938448174782;
-    let y = y0 * 0.6631531244629528 * (d * d + 1.4074696786048837);
-    let s = x * y;
+    let w = x * y0;
+    let z = w * y0;
+    let t = 2.102354975218448 + 0.6631531244629528 * z * (z - 2.6553876896349564);
+    let s = w * t;
+    let y = y0 * t;
     let v = s * y;
     let large = f64::from_bits(0x21a8000000000000 + bits / (2 * HIDDEN) * HIDDEN);
     let h = s + large - large;
     let r = x - h * h - (s - h) * (s + h);
-    s + y * r * (1.1875 - v + 0.3125 * (v * v))
+    s + r * (y * (1.1875 - v + 0.3125 * (v * v)))
 }
 
 // Whether q is the whole number nearest to the root of m * 2 ^ 52: whether that is above q * q - q and not
