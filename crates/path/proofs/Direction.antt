@@ -1,16 +1,16 @@
 -- What a bounce learns from a sampler's answer.
--- Where it is no direction, the bounce is lost (`no-direction`) and each weight is 0 (`no-weight`).
+-- Where it is no direction, the bounce is lost (`no-direction`) and each weight is 0 (`no-weights`).
 -- A direction that metal sends on is a reflection (`metal-reflects`).
 use Prim.Native.Nat.{ℕ, suc}
 use native.Mathlib.Omega.{arith}
 use mathlib.Core.Path.{_≡_, refl, sym, ap, _∙_}
 use mathlib.Core.Logic.{_⊎_, inl, inr}
 use mathlib.Core.Bool.{Bool, true, false, cond}
-use lib.Ieee.{Float}
 use denote.Enum.Declared.{tagOf}
 use Rattle.numbers.specs.Float.{f0}
 use Rattle.numbers.specs.declared.vec2.Vec2.{Vec2}
 use Rattle.numbers.specs.declared.vec3.Vec3.{Vec3}
+use Rattle.optics.specs.Color.{color}
 use Rattle.optics.specs.Surface.{Microsurface}
 use Rattle.optics.specs.Bxdf.{Outgoing, direction, none, total, Scattered, scattered, totally, sampled, branch, reflect, conductorFrom}
 use Rattle.optics.specs.Bxdf as Bxdf
@@ -21,7 +21,7 @@ use Rattle.optics.specs.declared.bxdf.Sampled.the-variants as S
 use Rattle.optics.proofs.bxdf.Sampled.{the-type}
 use Rattle.path.specs.declared.records.Path.{Path}
 use Rattle.path.specs.declared.records.Bounce.{Bounce}
-use Rattle.path.specs.Bounce.{weightFrom}
+use Rattle.path.specs.Bounce.{weightFrom, weightsFrom}
 use Rattle.path.specs.Answer.{lost, shares, worked}
 
 -- ---- no direction: a variant after `Direction`, the first or the second
@@ -39,13 +39,13 @@ no-direction (S.Direction wi r) (inr e) m lambda b next = absurd (not-first 1 e)
 no-direction S.None h m lambda b next = refl
 no-direction S.Total h m lambda b next = refl
 
-pub no-weight : (s : Sampled) → Directionless s → (m : Microsurface) (lambda : Color) (b : Bounce) (wavelength ks tf : Float)
-    → weightFrom (sampled s) m lambda b wavelength ks tf ≡ f0
-unfolding sampled weightFrom
-no-weight (S.Direction wi r) (inl e) m lambda b wavelength ks tf = absurd (not-first 0 e)
-no-weight (S.Direction wi r) (inr e) m lambda b wavelength ks tf = absurd (not-first 1 e)
-no-weight S.None h m lambda b wavelength ks tf = refl
-no-weight S.Total h m lambda b wavelength ks tf = refl
+pub no-weights : (s : Sampled) → Directionless s → (m : Microsurface) (lambda : Color) (b : Bounce)
+    → weightsFrom (sampled s) m lambda b ≡ color f0 f0 f0 f0
+unfolding sampled weightsFrom weightFrom
+no-weights (S.Direction wi r) (inl e) m lambda b = absurd (not-first 0 e)
+no-weights (S.Direction wi r) (inr e) m lambda b = absurd (not-first 1 e)
+no-weights S.None h m lambda b = refl
+no-weights S.Total h m lambda b = refl
 
 -- ---- metal: each of its branches is a reflection
 abbrev reflection : Scattered → Bool

@@ -34,7 +34,7 @@ ghost use Rattle.optics.specs.declared.microfacet.Kind.the-variants.{Metal, Gla
 ghost use Rattle.path.specs.Path.{path, weighed};
 ghost use Rattle.path.specs.Bounce.{leftOnGlass, shadowing};
 ghost use Rattle.path.specs.Known.{constantFrom};
-ghost use Rattle.path.specs.Answer.{outcome, lost, densityOf, onSurface, bounce};
+ghost use Rattle.path.specs.Answer.{outcome, lost, densityOf, branchOf, onSurface, bounce};
 
 // A bounce of `path` on a surface, whose spectra `eta` and `k` are lent beside it.
 pub fn bounce(path: Path, surface: Surface, eta: &[f64], k: &[f64], b: Bounce) -> Bounced
@@ -158,21 +158,33 @@ fn on_glass(
     };
 
     let seen = seen_on_glass(mfd, at.eta, at.k, wo, wi, wh, reflection);
-    let density = density_of(seen.pdf);
-    let world = uvw.to_world(wi);
+    let filter = weight::glass_filter(reflection, b.ks, b.tf);
+    sent(
+        reflection,
+        uvw.to_world(wi),
+        density_of(seen.pdf),
+        shares,
+        left.weighed(weight::weights(lambda, filter, seen.q)),
+    )
+}
+
+// Light that glass sends on, by the branch that was taken.
+fn sent(reflection: bool, wi: Vec3, density: Density, shares: Shares, path: Path) -> Bounced
+    ensures { λ r. ⌜ outcome r ≡ branchOf reflection wi density shares path ⌝ }
+{
     if reflection {
         return Bounced::Reflected {
-            wi: world,
+            wi,
             density,
             shares,
-            path: left.weighed(weight::weights(lambda, b.ks, seen.q)),
+            path,
         };
     }
     Bounced::Passed {
-        wi: world,
+        wi,
         density,
         shares,
-        path: left.weighed(weight::weights(lambda, b.tf, seen.q)),
+        path,
     }
 }
 

@@ -62,6 +62,16 @@ pub fn metal_filter(ks: Color, f: Color) -> Color
     }
 }
 
+// The filter of light that glass reflects or passes: that of the branch.
+pub fn glass_filter(reflection: bool, ks: Color, tf: Color) -> Color
+    ensures { λ r. ⌜ r ≡ each2 (cond reflection) ks tf ⌝ }
+{
+    if reflection {
+        return ks;
+    }
+    tf
+}
+
 // The weight at one wavelength: an ended one weighs 0.
 fn weight(wl: f64, filter: f64, q: f64) -> f64
     ensures { λ r. ⌜ r ≡ weight wl filter q ⌝ }
