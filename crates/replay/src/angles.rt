@@ -1,13 +1,13 @@
 // Angles.
+use crate::words;
 use crate::words::same_bool;
 use crate::words::same_float;
 use numbers::spherical_utils;
-use numbers::vec3::Vec3;
 
 // Whether the answer of the function `number` is the record's.
 pub fn replay(fd: i32, number: u64, w: &[f64; 30]) -> bool {
-    let a = Vec3::new(w[0], w[1], w[2]);
-    let b = Vec3::new(w[3], w[4], w[5]);
+    let a = words::vec3(w, 0);
+    let b = words::vec3(w, 3);
     match number {
         601 => same_bool(fd, spherical_utils::same_hemisphere(a, b)),
         602 => same_float(fd, spherical_utils::cos_phi(a)),

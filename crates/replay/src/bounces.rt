@@ -2,7 +2,6 @@
 use crate::words;
 use crate::words::same_float;
 use crate::words::same_number;
-use numbers::vec3::Vec3;
 use path::bsdf;
 use path::plain;
 use path::plain::BounceResult;
@@ -22,23 +21,29 @@ fn same_path(fd: i32, path: Path) -> bool {
     words::same_color(fd, path.lambda) & words::same_color(fd, path.power)
 }
 
-// Whether the answer of the bounce is the record's.
-pub fn replay(fd: i32, w: &[f64; 30], eta: &[f64], k: &[f64]) -> bool {
-    let path = Path {
-        lambda: words::color(w[3], w[4], w[5], w[6]),
-        power: words::color(w[7], w[8], w[9], w[10]),
-    };
-    let b = Bounce {
-        wo: Vec3::new(w[11], w[12], w[13]),
-        normal: Vec3::new(w[14], w[15], w[16]),
+fn path_of(w: &[f64; 30]) -> Path {
+    Path {
+        lambda: words::color(w, 3),
+        power: words::color(w, 7),
+    }
+}
+
+fn bounce_of(w: &[f64; 30]) -> Bounce {
+    Bounce {
+        wo: words::vec3(w, 11),
+        normal: words::vec3(w, 14),
         backface: words::is_true(w[17]),
         u: w[18],
         disk: w[19],
         c: w[20],
         s: w[21],
-        ks: words::color(w[22], w[23], w[24], w[25]),
-        tf: words::color(w[26], w[27], w[28], w[29]),
-    };
-    let answer = bsdf::bounce(path, words::surface(w), eta, k, b);
+        ks: words::color(w, 22),
+        tf: words::color(w, 26),
+    }
+}
+
+// Whether the answer of the bounce is the record's.
+pub fn replay(fd: i32, w: &[f64; 30], eta: &[f64], k: &[f64]) -> bool {
+    let answer = bsdf::bounce(path_of(w), words::surface(w), eta, k, bounce_of(w));
     same_result(fd, plain::of_bounced(answer)) & same_path(fd, answer.path())
 }

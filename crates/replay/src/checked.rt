@@ -25,10 +25,10 @@ fn same_onb_answer(fd: i32, answer: OnbAnswer) -> bool {
 
 // Whether the answer of the function `number` is the record's.
 pub fn replay(fd: i32, number: u64, w: &[f64; 30], values: &[f64]) -> bool {
-    let a = Vec3::new(w[0], w[1], w[2]);
-    let b = Vec3::new(w[3], w[4], w[5]);
+    let a = words::vec3(w, 0);
+    let b = words::vec3(w, 3);
     match number {
-        801 => same_float_answer(fd, checked::lookup(values, w[0])),
+        801 => same_float_answer(fd, checked::lookup(values, a.x)),
         802 => same_onb_answer(fd, checked::onb(a)),
         803 => same_vec3_answer(fd, checked::to_local(a, b)),
         804 => same_vec3_answer(fd, checked::to_world(a, b)),

@@ -2,7 +2,6 @@
 use crate::words;
 use crate::words::same_direction;
 use crate::words::same_float;
-use numbers::vec2::Vec2;
 use numbers::vec3::Vec3;
 use optics::bxdf;
 use optics::bxdf::Reflected;
@@ -49,65 +48,91 @@ fn same_sampled(fd: i32, answer: Sampled) -> bool {
     }
 }
 
-fn facets(x: f64, y: f64) -> Ggx {
+fn facets(w: &[f64; 30], from: u32) -> Ggx {
     Ggx {
-        roughness: Vec2 { x, y },
+        roughness: words::vec2(w, from),
     }
 }
 
-// Whether the answer of the function `number` is the record's.
+// Whether the answer of the function `number` is the record's. A sampler has its random numbers where
+// others have the vector u.
 pub fn replay(fd: i32, number: u64, w: &[f64; 30]) -> bool {
-    let mfd = facets(w[0], w[1]);
-    let v = Vec3::new(w[2], w[3], w[4]);
-    let u = Vec3::new(w[5], w[6], w[7]);
-    let wh = Vec3::new(w[8], w[9], w[10]);
+    let mfd = facets(w, 0);
+    let v = words::vec3(w, 2);
+    let u = words::vec3(w, 5);
+    let wh = words::vec3(w, 8);
     match number {
         901 => words::same_bool(fd, mfd.is_delta()),
-        902 => same_float(fd, mfd.disney_diffuse(w[2], w[3], w[4])),
-        903 => same_float(fd, microfacet::f_schlick(w[0], w[1], w[2])),
+        902 => same_float(fd, mfd.disney_diffuse(v.x, v.y, v.z)),
         904 => same_float(fd, mfd.d(v)),
         905 => same_float(fd, mfd.lambda(v)),
         907 => same_float(fd, mfd.g(v, u, wh)),
         908 => same_float(fd, mfd.g1(v, u)),
         909 => same_float(fd, mfd.g_over_g1(v, u, wh)),
         910 => same_float(fd, mfd.sample_normal_pdf(v, u)),
-        911 => words::same_vec3(fd, mfd.sample_normal(v, w[5], w[6], w[7])),
-        912 => same_float(fd, microfacet::fr_real(w[0], w[1])),
-        913 => same_float(fd, microfacet::fr_complex(w[0], w[1], w[2])),
-        923 => same_sampled(fd, conductor::sample(v, mfd, w[5], w[6], w[7])),
+        911 => words::same_vec3(fd, mfd.sample_normal(v, u.x, u.y, u.z)),
+        923 => same_sampled(fd, conductor::sample(v, mfd, u.x, u.y, u.z)),
         925 => same_float(fd, conductor::pdf(v, u, mfd)),
         926 => {
-            let reflection = words::is_true(w[8]);
-            same_float(fd, dielectric::pdf(v, u, reflection, mfd, w[9], w[10]))
+            let reflection = words::is_true(wh.x);
+            same_float(fd, dielectric::pdf(v, u, reflection, mfd, wh.y, wh.z))
         }
-        _ => replay2(fd, number, w),
+        _ => fresnel(fd, number, w),
     }
 }
 
-fn replay2(fd: i32, number: u64, w: &[f64; 30]) -> bool {
-    let x = Vec3::new(w[0], w[1], w[2]);
-    let y = Vec3::new(w[3], w[4], w[5]);
+// Fresnel terms.
+fn fresnel(fd: i32, number: u64, w: &[f64; 30]) -> bool {
+    let x = words::vec3(w, 0);
+    let y = words::vec3(w, 3);
     match number {
+        903 => same_float(fd, microfacet::f_schlick(x.x, x.y, x.z)),
         906 => words::same_bool(fd, microfacet::chi_pass(x, y)),
+        912 => same_float(fd, microfacet::fr_real(x.x, x.y)),
+        913 => same_float(fd, microfacet::fr_complex(x.x, x.y, x.z)),
         914 => same_float(fd, microfacet::f_at(x, y, w[6], w[7])),
         921 => same_reflected(fd, bxdf::reflect(x, y)),
         922 => {
-            let wo = Vec3::new(w[1], w[2], w[3]);
-            let n = Vec3::new(w[4], w[5], w[6]);
-            same_refracted(fd, bxdf::refract(w[0], wo, n))
+            let wo = words::vec3(w, 1);
+            let n = words::vec3(w, 4);
+            same_refracted(fd, bxdf::refract(x.x, wo, n))
         }
+        _ => scattered(fd, number, w),
+    }
+}
+
+// The sampler of glass, and the density of either kind.
+fn scattered(fd: i32, number: u64, w: &[f64; 30]) -> bool {
+    match number {
         924 => {
-            let mfd = facets(w[0], w[1]);
-            let wo = Vec3::new(w[4], w[5], w[6]);
-            let at = dielectric::sample(wo, mfd, w[2], w[3], w[7], w[8], w[9], w[10]);
+            let wo = words::vec3(w, 4);
+            let random = words::color(w, 7);
+            let at = dielectric::sample(
+                wo,
+                facets(w, 0),
+                w[2],
+                w[3],
+                random.s0,
+                random.s1,
+                random.s2,
+                random.s3,
+            );
             same_sampled(fd, at)
         }
         927 => {
-            let kind = words::kind(w[0]);
-            let mfd = facets(w[1], w[2]);
-            let wi = Vec3::new(w[6], w[7], w[8]);
+            let wo = words::vec3(w, 3);
+            let wi = words::vec3(w, 6);
             let reflection = words::is_true(w[9]);
-            same_float(fd, bxdf::pdf(kind, mfd, y, wi, reflection, w[10], w[11]))
+            let p = bxdf::pdf(
+                words::kind(w[0]),
+                facets(w, 1),
+                wo,
+                wi,
+                reflection,
+                w[10],
+                w[11],
+            );
+            same_float(fd, p)
         }
         _ => false,
     }

@@ -6,13 +6,14 @@ use numbers::dense_spectrum::DenseSpectrum;
 
 // Whether the answer of the function `number` is the record's.
 pub fn replay(fd: i32, number: u64, w: &[f64; 30], values: &[f64]) -> bool {
+    let x = w[0];
     match number {
-        701 => same_float(fd, DenseSpectrum::sample_one(values, w[0])),
+        701 => same_float(fd, DenseSpectrum::sample_one(values, x)),
         702 => same_bool(fd, DenseSpectrum::is_constant(values)),
-        703 => same_bool(fd, dense_spectrum::all_within(values, w[0], w[1])),
+        703 => same_bool(fd, dense_spectrum::all_within(values, x, w[1])),
         704 => same_bool(fd, dense_spectrum::all_finite(values)),
-        705 => same_bool(fd, dense_spectrum::is_wavelength(w[0])),
-        706 => same_bool(fd, dense_spectrum::is_lookup_wavelength(w[0])),
+        705 => same_bool(fd, dense_spectrum::is_wavelength(x)),
+        706 => same_bool(fd, dense_spectrum::is_lookup_wavelength(x)),
         _ => false,
     }
 }

@@ -5,12 +5,12 @@ use crate::words::same_bool_answer;
 use crate::words::same_direction;
 use crate::words::same_float_answer;
 use numbers::vec2::Vec2;
-use numbers::vec3::Vec3;
 use optics::checked;
 use optics::checked::ColorAnswer;
 use optics::checked::SurfaceAnswer;
 use optics::microfacet;
 use optics::microfacet::Kind;
+use optics::microfacet::Surface;
 use rulvimba::records;
 
 fn same_color_answer(fd: i32, answer: ColorAnswer) -> bool {
@@ -43,56 +43,58 @@ fn same_surface_answer(fd: i32, answer: SurfaceAnswer) -> bool {
 // Whether the answer of the function `number` is the record's.
 pub fn replay(fd: i32, number: u64, w: &[f64; 30], eta: &[f64], k: &[f64]) -> bool {
     let s = words::surface(w);
-    let v = Vec3::new(w[3], w[4], w[5]);
-    let u = Vec3::new(w[6], w[7], w[8]);
+    let v = words::vec3(w, 3);
+    let u = words::vec3(w, 6);
     match number {
         951 => same_bool_answer(fd, checked::is_delta(s, eta, k)),
         952 => same_float_answer(fd, checked::lambda(s, eta, k, v)),
         953 => same_bool_answer(fd, checked::chi_pass(s, eta, k, v, u)),
         954 => same_float_answer(fd, checked::g1(s, eta, k, v, u)),
-        955 => {
-            let wh = Vec3::new(w[9], w[10], w[11]);
-            same_float_answer(fd, checked::g(s, eta, k, v, u, wh))
-        }
+        955 => same_float_answer(fd, checked::g(s, eta, k, v, u, words::vec3(w, 9))),
         956 => same_float_answer(fd, checked::d(s, eta, k, v)),
-        957 => same_float_answer(fd, checked::disney_diffuse(s, eta, k, w[3], w[4], w[5])),
+        957 => same_float_answer(fd, checked::disney_diffuse(s, eta, k, v.x, v.y, v.z)),
+        _ => scattered(fd, number, s, w, eta, k),
+    }
+}
+
+// Fresnel terms, the sampler and the density. The sampler has its random numbers where others have the
+// vector u.
+fn scattered(fd: i32, number: u64, s: Surface, w: &[f64; 30], eta: &[f64], k: &[f64]) -> bool {
+    let v = words::vec3(w, 3);
+    let u = words::vec3(w, 6);
+    match number {
         958 => same_float_answer(fd, checked::f_at(s, eta, k, v, u, w[9])),
-        959 => {
-            let wls = words::color(w[9], w[10], w[11], w[12]);
-            same_color_answer(fd, checked::f(s, eta, k, v, u, wls))
-        }
+        959 => same_color_answer(fd, checked::f(s, eta, k, v, u, words::color(w, 9))),
         960 => {
-            let n = checked::sample_normal(s, eta, k, v, w[6], w[7], w[8]);
+            let n = checked::sample_normal(s, eta, k, v, u.x, u.y, u.z);
             words::same_vec3_answer(fd, n)
         }
         961 => {
             let reflection = words::is_true(w[9]);
             same_float_answer(fd, checked::pdf(s, eta, k, v, u, reflection, w[10]))
         }
-        _ => replay2(fd, number, w, eta, k),
+        _ => apart(fd, number, w, eta, k),
     }
 }
 
-fn replay2(fd: i32, number: u64, w: &[f64; 30], eta: &[f64], k: &[f64]) -> bool {
-    let v = Vec3::new(w[3], w[4], w[5]);
-    let u = Vec3::new(w[6], w[7], w[8]);
+// What is not a call on a whole surface: its spectra, the surface that is made, a mirror and a bend.
+fn apart(fd: i32, number: u64, w: &[f64; 30], eta: &[f64], k: &[f64]) -> bool {
+    let v = words::vec3(w, 3);
+    let u = words::vec3(w, 6);
     match number {
         931 => words::same_bool(fd, microfacet::constant_eta(eta)),
-        932 => words::same_float(fd, microfacet::eta_at(eta, w[3])),
-        933 => words::same_float(fd, microfacet::k_at(k, w[3])),
-        934 => {
-            let wls = words::color(w[9], w[10], w[11], w[12]);
-            words::same_color(fd, microfacet::f(eta, k, v, u, wls))
-        }
+        932 => words::same_float(fd, microfacet::eta_at(eta, v.x)),
+        933 => words::same_float(fd, microfacet::k_at(k, v.x)),
+        934 => words::same_color(fd, microfacet::f(eta, k, v, u, words::color(w, 9))),
         962 => {
             let made = checked::make_surface(words::kind(w[0]), w[1], eta, k);
             same_surface_answer(fd, made)
         }
         963 => same_direction(fd, records::of_reflect(checked::reflect(v, u))),
         964 => {
-            let wo = Vec3::new(w[4], w[5], w[6]);
-            let n = Vec3::new(w[7], w[8], w[9]);
-            same_direction(fd, records::of_refract(checked::refract(w[3], wo, n)))
+            let wo = words::vec3(w, 4);
+            let n = words::vec3(w, 7);
+            same_direction(fd, records::of_refract(checked::refract(v.x, wo, n)))
         }
         _ => false,
     }

@@ -30,12 +30,44 @@ pub fn surface(w: &[f64; 30]) -> Surface {
     let kind = kind(w[0]);
     Surface {
         kind,
-        roughness: Vec2 { x: w[1], y: w[2] },
+        roughness: vec2(w, 1),
     }
 }
 
-pub fn color(s0: f64, s1: f64, s2: f64, s3: f64) -> Color {
-    Color { s0, s1, s2, s3 }
+// The word at `i`, and 0 past the last.
+fn at(w: &[f64; 30], i: usize) -> f64 {
+    if i < 30 {
+        return w[i];
+    }
+    0.0
+}
+
+// The words from a place on, which is a u32 so that no sum with it wraps.
+pub fn vec2(w: &[f64; 30], from: u32) -> Vec2 {
+    let i = from as usize;
+    Vec2 {
+        x: at(w, i),
+        y: at(w, i + 1),
+    }
+}
+
+pub fn vec3(w: &[f64; 30], from: u32) -> Vec3 {
+    let i = from as usize;
+    Vec3 {
+        x: at(w, i),
+        y: at(w, i + 1),
+        z: at(w, i + 2),
+    }
+}
+
+pub fn color(w: &[f64; 30], from: u32) -> Color {
+    let i = from as usize;
+    Color {
+        s0: at(w, i),
+        s1: at(w, i + 1),
+        s2: at(w, i + 2),
+        s3: at(w, i + 3),
+    }
 }
 
 // ---- out: whether the record's next words are these. Each is read, whatever those before it were.
