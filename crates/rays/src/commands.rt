@@ -1,9 +1,6 @@
 // The commands of a job. Each reads its line, calls the model and puts one line of answer behind the
 // first `n` bytes of `out`; it answers how many bytes are used then, and what the answer is.
-use crate::line;
-use crate::line::Cursor;
-use crate::line::Fault;
-use crate::output;
+use crate::figures;
 use crate::sizes;
 use crate::store;
 use crate::tally::Answered;
@@ -25,6 +22,13 @@ use path::records::Density;
 use path::records::Path;
 use path::records::Shares;
 use path::records::Started;
+use text::faults;
+use text::line;
+use text::line::Cursor;
+use text::line::EntriesRead;
+use text::line::Fault;
+use text::output;
+use text::words::same;
 ghost use mathlib.Core.Path.{_≡_};
 ghost use Rattle.optics.specs.Surface.{microsurface};
 ghost use Rattle.path.specs.Answer.{outcome, bounce, pathOf};
@@ -38,54 +42,13 @@ fn answered(used: usize) -> Answered {
     }
 }
 
-// A limit of the sizes, at a text's end.
-fn limit_text(out: &mut [u8], n: usize, text: &[u8], last: u64, end: &[u8]) -> usize {
-    let a = output::text(out, n, text);
-    let b = output::decimal(out, a, last);
-    output::text(out, b, end)
-}
-
-// What is wrong with a line.
-fn fault_text(out: &mut [u8], n: usize, fault: Fault) -> usize {
-    match fault {
-        Fault::Command => output::text(out, n, b"unknown command\n"),
-        Fault::SurfaceIndex => limit_text(
-            out,
-            n,
-            b"a surface's index is from 0 to ",
-            store::SURFACES - 1,
-            b"\n",
-        ),
-        Fault::PathIndex => limit_text(
-            out,
-            n,
-            b"a path's index is from 0 to ",
-            store::PATHS - 1,
-            b"\n",
-        ),
-        Fault::Kind => output::text(out, n, b"a kind is metal or glass\n"),
-        Fault::Flag => output::text(out, n, b"a flag is 0 or 1\n"),
-        Fault::Number => output::text(
-            out,
-            n,
-            b"a number is the 16 hexadecimal digits of its bits; a decimal is turned into them by rays-csv to-job\n",
-        ),
-        Fault::Eta => output::text(out, n, b"the word eta is missing\n"),
-        Fault::K => output::text(out, n, b"the word k is missing\n"),
-        Fault::Short => output::text(out, n, b"the line ends too soon\n"),
-        Fault::More => output::text(out, n, b"the line goes on\n"),
-        Fault::NoSurface => output::text(out, n, b"the surface is not made\n"),
-        Fault::NoPath => output::text(out, n, b"the path is not started\n"),
-    }
-}
-
 // `LINE error word N: what is wrong`, after the line's number.
 fn fault_at(out: &mut [u8], n: usize, word: u64, fault: Fault) -> Answered {
     let a = output::text(out, n, b" error word ");
     let b = output::decimal(out, a, word);
     let c = output::text(out, b, b": ");
     Answered {
-        used: fault_text(out, c, fault),
+        used: faults::text(out, c, fault, store::SURFACES, store::PATHS),
         outcome: Outcome::Error,
     }
 }
@@ -98,14 +61,10 @@ fn fault(out: &mut [u8], n: usize, c: Cursor) -> Answered {
 // A line that is too long.
 pub fn too_long(out: &mut [u8], n: usize, number: u64) -> Answered {
     let a = output::decimal(out, n, number);
+    let b = output::text(out, a, b" error line: a line is at most ");
+    let c = output::decimal(out, b, sizes::LINE as u64);
     Answered {
-        used: limit_text(
-            out,
-            a,
-            b" error line: a line is at most ",
-            sizes::LINE as u64,
-            b" bytes\n",
-        ),
+        used: output::text(out, c, b" bytes\n"),
         outcome: Outcome::Error,
     }
 }
@@ -181,15 +140,23 @@ fn shares_text(out: &mut [u8], n: usize, shares: Shares) -> usize {
 
 fn path_text(out: &mut [u8], n: usize, path: Path) -> usize {
     let a = output::text(out, n, b" lambda");
-    let b = output::color(out, a, path.lambda);
+    let b = figures::color(out, a, path.lambda);
     let c = output::text(out, b, b" power");
-    let d = output::color(out, c, path.power);
+    let d = figures::color(out, c, path.power);
     output::text(out, d, b"\n")
 }
 
-fn sampled(out: &mut [u8], n: usize, wi: Vec3, density: Density, measure: Measure) -> usize {
-    let a = output::text(out, n, b" wi");
-    let b = output::vec3(out, a, wi);
+fn sampled(
+    out: &mut [u8],
+    n: usize,
+    name: &[u8],
+    wi: Vec3,
+    density: Density,
+    measure: Measure,
+) -> usize {
+    let named = output::text(out, n, name);
+    let a = output::text(out, named, b" wi");
+    let b = figures::vec3(out, a, wi);
     density_text(out, b, density, measure)
 }
 
@@ -211,9 +178,8 @@ fn bounced(out: &mut [u8], n: usize, answer: Bounced, measure: Measure) -> Answe
             shares,
             path,
         } => {
-            let a = output::text(out, n, b" reflected");
-            let b = sampled(out, a, wi, density, measure);
-            left(out, b, shares, path)
+            let a = sampled(out, n, b" reflected", wi, density, measure);
+            left(out, a, shares, path)
         }
         Bounced::Passed {
             wi,
@@ -221,75 +187,82 @@ fn bounced(out: &mut [u8], n: usize, answer: Bounced, measure: Measure) -> Answe
             shares,
             path,
         } => {
-            let a = output::text(out, n, b" passed");
-            let b = sampled(out, a, wi, density, measure);
-            left(out, b, shares, path)
+            let a = sampled(out, n, b" passed", wi, density, measure);
+            left(out, a, shares, path)
         }
     }
 }
 
 // ---- commands
 
-// How many entries a spectrum has of which `count` were read: one is repeated.
-fn spread(values: &mut [f64], count: usize) -> usize {
-    if count == 1 {
+// The word `name` and the entries of a spectrum; one entry stands for all.
+fn spectrum(text: &[u8], c: Cursor, name: &[u8], fault: Fault, values: &mut [f64]) -> EntriesRead {
+    let before = line::keyword(text, c, name, fault);
+    let read = line::entries(text, before, values);
+    if read.count == 1 {
         store::fill(values);
-        return sizes::ENTRIES;
+        return EntriesRead {
+            count: sizes::ENTRIES,
+            ..read
+        };
     }
-    count
+    read
 }
 
-// Keeps a surface that was made.
-fn made(
+// Makes a surface, and keeps it.
+fn make(
     surfaces: &mut [f64],
-    kinds: &mut [u64],
     i: u64,
-    answer: SurfaceAnswer,
+    glass: bool,
+    roughness: f64,
     eta: &[f64],
     k: &[f64],
     out: &mut [u8],
     n: usize,
 ) -> Answered {
-    match answer {
+    match checked::make_surface(kind_of(glass), roughness, eta, k) {
         SurfaceAnswer::Refused(why) => return refused(out, n, why),
         SurfaceAnswer::Given(surface) => {
-            store::keep_surface(surfaces, kinds, i, surface, eta, k);
+            store::keep_surface(surfaces, i, surface, eta, k);
             return answered(output::text(out, n, b" ok\n"));
         }
     }
 }
 
+fn kind_of(glass: bool) -> Kind {
+    if glass {
+        return Kind::Glass;
+    }
+    Kind::Metal
+}
+
 // surface INDEX KIND ROUGHNESS eta ENTRIES k ENTRIES
-fn surface(
-    text: &[u8],
-    c: Cursor,
-    surfaces: &mut [f64],
-    kinds: &mut [u64],
-    out: &mut [u8],
-    n: usize,
-) -> Answered {
+fn surface(text: &[u8], c: Cursor, surfaces: &mut [f64], out: &mut [u8], n: usize) -> Answered {
     let index = line::index(text, c, store::SURFACES, Fault::SurfaceIndex);
-    let kind = line::kind(text, index.next);
-    let roughness = line::number(text, kind.next);
-    let before_eta = line::keyword(text, roughness.next, b"eta", Fault::Eta);
+    let glass = line::either(text, index.next, b"metal", b"glass", Fault::Kind);
+    let roughness = line::number(text, glass.next);
     let mut eta = [0.0; sizes::LINE_NUMBERS];
-    let eta_read = line::entries(text, before_eta, &mut eta);
-    let eta_count = spread(&mut eta, eta_read.count);
-    let before_k = line::keyword(text, eta_read.next, b"k", Fault::K);
+    let eta_read = spectrum(text, roughness.next, b"eta", Fault::Eta, &mut eta);
     let mut k = [0.0; sizes::LINE_NUMBERS];
-    let k_read = line::entries(text, before_k, &mut k);
-    let k_count = spread(&mut k, k_read.count);
+    let k_read = spectrum(text, eta_read.next, b"k", Fault::K, &mut k);
     let end = line::end(text, k_read.next);
     if !end.ok {
         return fault(out, n, end);
     }
     let i = index.value;
     let a = head(out, n, b" surface ", i);
-    let eta_part = store::part(&eta, 0, eta_count);
-    let k_part = store::part(&k, 0, k_count);
-    let of_kind = kind.value;
-    let answer = checked::make_surface(of_kind, roughness.value, eta_part, k_part);
-    made(surfaces, kinds, i, answer, eta_part, k_part, out, a)
+    let eta_part = store::part(&eta, 0, eta_read.count);
+    let k_part = store::part(&k, 0, k_read.count);
+    make(
+        surfaces,
+        i,
+        glass.value,
+        roughness.value,
+        eta_part,
+        k_part,
+        out,
+        a,
+    )
 }
 
 // start PATH LAMBDA*4
@@ -356,7 +329,6 @@ fn bounce_held(
 // The bounce of path `p` on surface `s`.
 fn bounce_on(
     surfaces: &[f64],
-    kinds: &[u64],
     paths: &mut [f64],
     p: u64,
     s: u64,
@@ -372,7 +344,7 @@ fn bounce_on(
     if !store::is_made(place) {
         return fault_at(out, n, 3, Fault::NoSurface);
     }
-    let surface = store::surface(place, kinds, s);
+    let surface = store::surface(place);
     let eta = store::eta(place);
     let answer = bounce_held(paths, p, surface, eta, store::k(place), b);
     let a = head(out, n, b" bounce ", p);
@@ -384,7 +356,6 @@ fn bounce(
     text: &[u8],
     c: Cursor,
     surfaces: &[f64],
-    kinds: &[u64],
     paths: &mut [f64],
     out: &mut [u8],
     n: usize,
@@ -399,13 +370,12 @@ fn bounce(
         return fault(out, n, end);
     }
     let b = bounce_of(&w, backface.value);
-    bounce_on(surfaces, kinds, paths, p.value, s.value, b, out, n)
+    bounce_on(surfaces, paths, p.value, s.value, b, out, n)
 }
 
 // The density on surface `s`.
 fn density_on(
     surfaces: &[f64],
-    kinds: &[u64],
     s: u64,
     reflection: bool,
     w: &[f64],
@@ -416,7 +386,7 @@ fn density_on(
     if !store::is_made(place) {
         return fault_at(out, n, 2, Fault::NoSurface);
     }
-    let surface = store::surface(place, kinds, s);
+    let surface = store::surface(place);
     let eta = store::eta(place);
     let k = store::k(place);
     let wo = vec3(w, 0);
@@ -433,14 +403,7 @@ fn density_on(
 }
 
 // density SURFACE REFLECTION WO*3 WI*3 LAMBDA
-fn density(
-    text: &[u8],
-    c: Cursor,
-    surfaces: &[f64],
-    kinds: &[u64],
-    out: &mut [u8],
-    n: usize,
-) -> Answered {
+fn density(text: &[u8], c: Cursor, surfaces: &[f64], out: &mut [u8], n: usize) -> Answered {
     let s = line::index(text, c, store::SURFACES, Fault::SurfaceIndex);
     let reflection = line::flag(text, s.next);
     let mut w = [0.0; sizes::DENSITY];
@@ -449,7 +412,31 @@ fn density(
     if !end.ok {
         return fault(out, n, end);
     }
-    density_on(surfaces, kinds, s.value, reflection.value, &w, out, n)
+    density_on(surfaces, s.value, reflection.value, &w, out, n)
+}
+
+enum Command {
+    Bounce,
+    Density,
+    Start,
+    Surface,
+    Unknown,
+}
+
+fn command_of(word: &[u8]) -> Command {
+    if same(word, b"bounce") {
+        return Command::Bounce;
+    }
+    if same(word, b"density") {
+        return Command::Density;
+    }
+    if same(word, b"start") {
+        return Command::Start;
+    }
+    if same(word, b"surface") {
+        return Command::Surface;
+    }
+    Command::Unknown
 }
 
 // The line `number` of a job, without its line feed.
@@ -457,7 +444,6 @@ pub fn answer(
     text: &[u8],
     number: u64,
     surfaces: &mut [f64],
-    kinds: &mut [u64],
     paths: &mut [f64],
     out: &mut [u8],
     n: usize,
@@ -472,17 +458,11 @@ pub fn answer(
     }
     let c = line::behind_word(text, first);
     let a = output::decimal(out, n, number);
-    if line::same(word, b"bounce") {
-        return bounce(text, c, surfaces, kinds, paths, out, a);
+    match command_of(word) {
+        Command::Bounce => bounce(text, c, surfaces, paths, out, a),
+        Command::Density => density(text, c, surfaces, out, a),
+        Command::Start => start(text, c, paths, out, a),
+        Command::Surface => surface(text, c, surfaces, out, a),
+        Command::Unknown => fault_at(out, a, 1, Fault::Command),
     }
-    if line::same(word, b"density") {
-        return density(text, c, surfaces, kinds, out, a);
-    }
-    if line::same(word, b"start") {
-        return start(text, c, paths, out, a);
-    }
-    if line::same(word, b"surface") {
-        return surface(text, c, surfaces, kinds, out, a);
-    }
-    fault_at(out, a, 1, Fault::Command)
 }

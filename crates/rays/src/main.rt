@@ -6,20 +6,25 @@ use libc::STDOUT_FILENO;
 use tally::Answered;
 use tally::Outcome;
 use tally::Tally;
+use text::line;
+use text::words::part;
 
 mod commands;
-mod line;
-mod output;
+mod figures;
 mod sizes;
 mod store;
 mod tally;
 
-// How far the job is read: the bytes from `at` to `have` of the buffer are the next. `number` is the
-// line's, `skipping` whether the rest of it is skipped, `used` how many bytes are to be written, and
-// `tally` what was answered.
+// How far the job is read: the bytes from `at` to `have` of the buffer are the next. Those from `at` to
+// `end` are a line if it is `ready`: the next, whose number is `number`, or the rest of the job if it
+// has `ended`. `skipping` is whether the rest of the line is skipped, `used` how many bytes are to be
+// written, and `tally` what was answered.
 struct Stream {
     go: bool,
+    ended: bool,
+    ready: bool,
     at: usize,
+    end: usize,
     have: usize,
     number: u64,
     skipping: bool,
@@ -74,19 +79,18 @@ fn shift(buf: &mut [u8], from: usize, length: usize) {
 
 // Writes the first `used` bytes, and answers whether it could.
 fn flush(out: &[u8], used: usize) -> bool {
-    let is_written = io::write_all(STDOUT_FILENO, line::part(out, 0, used));
+    let is_written = io::write_all(STDOUT_FILENO, part(out, 0, used));
     if !is_written {
         os::fail(b"rays: write");
     }
     is_written
 }
 
-// The answer to a whole line.
+// The answer to the line that is ready.
 fn line_answer(
-    text: &[u8],
+    buf: &[u8],
     s: Stream,
     surfaces: &mut [f64],
-    kinds: &mut [u64],
     paths: &mut [f64],
     out: &mut [u8],
 ) -> Answered {
@@ -97,10 +101,11 @@ fn line_answer(
             outcome: Outcome::Nothing,
         };
     }
+    let text = part(buf, s.at, s.end);
     if sizes::LINE < text.len() {
         return commands::too_long(out, used, s.number);
     }
-    commands::answer(text, s.number, surfaces, kinds, paths, out, used)
+    commands::answer(text, s.number, surfaces, paths, out, used)
 }
 
 // The stream with an answer more.
@@ -173,27 +178,6 @@ fn read_behind(fd: i32, buf: &mut [u8], have: usize) -> isize {
     0
 }
 
-// The last line is answered, if there is one, what was answered is counted, and the stream ends.
-fn last(
-    buf: &[u8],
-    s: Stream,
-    surfaces: &mut [f64],
-    kinds: &mut [u64],
-    paths: &mut [f64],
-    out: &mut [u8],
-) -> Stream {
-    let text = line::part(buf, 0, s.have);
-    let r = with_answer(s, line_answer(text, s, surfaces, kinds, paths, out));
-    let tally = r.tally;
-    let used = tally.text(out, r.used);
-    flush(out, used);
-    stopped(r)
-}
-
-fn stopped(s: Stream) -> Stream {
-    Stream { go: false, ..s }
-}
-
 // The stream with `n` bytes more.
 fn longer(buf: &[u8], s: Stream, n: usize) -> Stream {
     let have = s.have;
@@ -225,43 +209,44 @@ fn fetch(fd: i32, buf: &mut [u8], have: usize, out: &[u8], used: usize) -> Fetch
     Fetched::Bytes(n)
 }
 
-fn with_nothing_used(s: Stream) -> Stream {
-    Stream { used: 0, ..s }
+// The stream with what was read; at the job's end the rest of it is the last line.
+fn with_fetched(buf: &[u8], s: Stream, fetched: Fetched) -> Stream {
+    match fetched {
+        Fetched::Bytes(n) => longer(buf, s, n),
+        Fetched::End => Stream {
+            ended: true,
+            ready: true,
+            end: s.have,
+            ..s
+        },
+        Fetched::Failed => Stream { go: false, ..s },
+    }
 }
 
-// The stream with what was read; at the job's end its last line is answered.
-fn with_fetched(
-    buf: &[u8],
-    s: Stream,
-    fetched: Fetched,
-    surfaces: &mut [f64],
-    kinds: &mut [u64],
-    paths: &mut [f64],
-    out: &mut [u8],
-) -> Stream {
-    if let Fetched::Bytes(n) = fetched {
-        return longer(buf, s, n);
-    }
-    if let Fetched::Failed = fetched {
-        return stopped(s);
-    }
-    last(buf, s, surfaces, kinds, paths, out)
-}
-
-// The stream once more is read.
-fn more(
-    fd: i32,
-    buf: &mut [u8],
-    s: Stream,
-    surfaces: &mut [f64],
-    kinds: &mut [u64],
-    paths: &mut [f64],
-    out: &mut [u8],
-) -> Stream {
+// The stream once more is read and nothing is left to be written.
+fn more(fd: i32, buf: &mut [u8], s: Stream, out: &mut [u8]) -> Stream {
     let r = at_start(buf, out, s);
     let fetched = fetch(fd, buf, r.have, out, r.used);
-    let written = with_nothing_used(r);
-    with_fetched(buf, written, fetched, surfaces, kinds, paths, out)
+    let written = Stream {
+        ready: false,
+        used: 0,
+        ..r
+    };
+    with_fetched(buf, written, fetched)
+}
+
+// The stream with the next line ready and room for its answer, or with more of the job.
+fn next_line(fd: i32, buf: &mut [u8], s: Stream, out: &mut [u8]) -> Stream {
+    let end = line_feed(buf, s.at, s.have);
+    if end < s.have {
+        let r = with_room(out, s);
+        return Stream {
+            ready: true,
+            end: end,
+            ..r
+        };
+    }
+    more(fd, buf, s, out)
 }
 
 // The place behind the line feed at `end`.
@@ -272,77 +257,92 @@ fn after(end: usize, have: usize) -> usize {
     have
 }
 
-// The stream behind the line that ends at `end`.
-fn behind(s: Stream, end: usize) -> Stream {
+// The stream behind its line; behind the job's last it stops.
+fn behind(s: Stream) -> Stream {
     Stream {
-        at: after(end, s.have),
+        go: s.go && !s.ended,
+        at: after(s.end, s.have),
         number: line::next(s.number),
         skipping: false,
         ..s
     }
 }
 
-// Answers the next line, or reads more.
+// Answers the line that is ready, if one is.
+fn answer_line(
+    buf: &[u8],
+    s: Stream,
+    surfaces: &mut [f64],
+    paths: &mut [f64],
+    out: &mut [u8],
+) -> Stream {
+    if !s.ready {
+        return s;
+    }
+    behind(with_answer(s, line_answer(buf, s, surfaces, paths, out)))
+}
+
 fn step(
     fd: i32,
     buf: &mut [u8],
     s: Stream,
     surfaces: &mut [f64],
-    kinds: &mut [u64],
     paths: &mut [f64],
     out: &mut [u8],
 ) -> Stream {
-    let at = s.at;
-    let have = s.have;
-    let end = line_feed(buf, at, have);
-    if end < have {
-        let r = with_room(out, s);
-        let text = line::part(buf, at, end);
-        let a = line_answer(text, r, surfaces, kinds, paths, out);
-        return behind(with_answer(r, a), end);
-    }
-    more(fd, buf, s, surfaces, kinds, paths, out)
+    let r = next_line(fd, buf, s, out);
+    answer_line(buf, r, surfaces, paths, out)
 }
 
-// A proved loop has to end, so it counts its turns, down from a number that no job uses up.
-fn answer_all(
-    fd: i32,
-    buf: &mut [u8],
-    surfaces: &mut [f64],
-    kinds: &mut [u64],
-    paths: &mut [f64],
-    out: &mut [u8],
-) {
-    let mut s = Stream {
+// What was answered is counted in the last line, if the job was read to its end.
+fn finish(s: Stream, out: &mut [u8]) {
+    if s.ended {
+        let tally = s.tally;
+        let used = tally.text(out, s.used);
+        flush(out, used);
+    }
+}
+
+fn beginning() -> Stream {
+    Stream {
         go: true,
+        ended: false,
+        ready: false,
         at: 0,
+        end: 0,
         have: 0,
         number: 1,
         skipping: false,
         used: 0,
         tally: Tally::new(),
-    };
+    }
+}
+
+// Answers each line. A proved loop has to end, so it counts its turns, down from a number that no job
+// uses up.
+fn answer_all(
+    fd: i32,
+    buf: &mut [u8],
+    surfaces: &mut [f64],
+    paths: &mut [f64],
+    out: &mut [u8],
+) -> Stream {
+    let mut s = beginning();
     let mut turns = u64::MAX;
     while turns > 0 && s.go {
-        s = step(fd, buf, s, surfaces, kinds, paths, out);
+        s = step(fd, buf, s, surfaces, paths, out);
         turns -= 1;
     }
+    s
 }
 
 fn answer_job(fd: i32) {
     let mut buf = io::large_buffer();
     let mut surfaces = [0.0; sizes::SURFACES * sizes::SURFACE];
-    let mut kinds = [0u64; sizes::SURFACES];
     let mut paths = [0.0; sizes::PATHS * sizes::PATH];
     let mut out = [0u8; sizes::OUTPUT];
-    answer_all(
-        fd,
-        &mut buf,
-        &mut surfaces,
-        &mut kinds,
-        &mut paths,
-        &mut out,
-    );
+    let s = answer_all(fd, &mut buf, &mut surfaces, &mut paths, &mut out);
+    finish(s, &mut out);
 }
 
 fn main() {

@@ -12,15 +12,15 @@ pub const COLOR: usize = 4;
 
 pub const PATH: usize = 2 * COLOR;
 
-// A surface's numbers: roughness x and y, eta, k.
-pub const ROUGHNESS: usize = 2;
-
+// A surface's numbers: roughness x and y, the kind, eta, k.
 pub const ENTRIES: usize = DenseSpectrum::SAMPLES;
 
-pub const SURFACE: usize = ROUGHNESS + 2 * ENTRIES;
+pub const SURFACE: usize = ETA + 2 * ENTRIES;
 
-// Where a surface's k begins.
-pub const K: usize = ROUGHNESS + ENTRIES;
+// Where a surface's eta and k begin.
+pub const ETA: usize = 3;
+
+pub const K: usize = ETA + ENTRIES;
 
 // The numbers behind the indices and the flag of a bounce and of a density.
 pub const BOUNCE: usize = 18;

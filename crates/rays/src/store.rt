@@ -1,6 +1,6 @@
 // The surfaces and the paths that a job holds, in flat arrays that `main` lends.
 //
-//   surface i   sizes::SURFACE numbers: roughness x and y, eta, k; its kind's code is the number i of `kinds`
+//   surface i   sizes::SURFACE numbers: roughness x and y, 0 for metal or 1 for glass, eta, k
 //   path i      sizes::PATH numbers: wavelengths and powers
 //
 // Zeros are a surface that was not made, whose roughness is never 0, and a path that was not started,
@@ -12,6 +12,7 @@ use optics::color::Color;
 use optics::microfacet::Kind;
 use optics::microfacet::Surface;
 use path::records::Path;
+ghost use Prim.Native.Nat.{_≤_};
 ghost use mathlib.Core.Path.{_≡_};
 ghost use lib.Seq.{sets};
 ghost use Rattle.rays.specs.Store as Store;
@@ -102,11 +103,6 @@ pub fn keep_path(paths: &mut [f64], i: u64, p: Path)
 }
 
 // ---- surfaces
-fn set(values: &mut [f64], i: usize, x: f64) {
-    if i < values.len() {
-        values[i] = x;
-    }
-}
 
 // The part from `a` to `b`, empty where there is none.
 pub fn part(values: &[f64], a: usize, b: usize) -> &[f64] {
@@ -118,9 +114,15 @@ pub fn part(values: &[f64], a: usize, b: usize) -> &[f64] {
     &values[..0]
 }
 
+fn surface_place(i: u64) -> u32
+    ensures { λ r. ⌜ r ≤ 65536 ⌝ }
+{
+    (i % SURFACES) as u32 * sizes::SURFACE as u32
+}
+
 // The surface's place; empty where it has none.
 pub fn place(surfaces: &[f64], i: u64) -> &[f64] {
-    let from = (i % SURFACES) as usize * sizes::SURFACE;
+    let from = surface_place(i) as usize;
     part(surfaces, from, from + sizes::SURFACE)
 }
 
@@ -129,68 +131,46 @@ pub fn is_made(place: &[f64]) -> bool {
 }
 
 pub fn eta(place: &[f64]) -> &[f64] {
-    part(place, sizes::ROUGHNESS, sizes::K)
+    part(place, sizes::ETA, sizes::K)
 }
 
 pub fn k(place: &[f64]) -> &[f64] {
     part(place, sizes::K, sizes::SURFACE)
 }
 
-// The surface, without its spectra.
-pub fn surface(place: &[f64], kinds: &[u64], i: u64) -> Surface {
-    Surface {
-        kind: kind(kinds, (i % SURFACES) as usize),
-        roughness: Vec2 {
-            x: at(place, 0),
-            y: at(place, 1),
-        },
-    }
-}
-
-fn kind(kinds: &[u64], i: usize) -> Kind {
-    if i < kinds.len() {
-        return Kind::of_code(kinds[i]);
+fn kind_of(number: f64) -> Kind {
+    if number == 1.0 {
+        return Kind::Glass;
     }
     Kind::Metal
 }
 
-fn keep_kind(kinds: &mut [u64], i: usize, kind: Kind) {
-    if i < kinds.len() {
-        kinds[i] = kind.code();
+fn kind_number(kind: Kind) -> f64 {
+    match kind {
+        Kind::Metal => 0.0,
+        Kind::Glass => 1.0,
     }
 }
 
-fn copy(to: &mut [f64], from: &[f64]) {
-    let mut i: usize = 0;
-    while i < to.len() {
-        to[i] = at(from, i);
-        i += 1;
+// The surface, without its spectra.
+pub fn surface(place: &[f64]) -> Surface {
+    Surface {
+        roughness: Vec2 {
+            x: at(place, 0),
+            y: at(place, 1),
+        },
+        kind: kind_of(at(place, 2)),
     }
 }
 
-fn copy_to(values: &mut [f64], a: usize, b: usize, from: &[f64]) {
-    if a <= b {
-        if b <= values.len() {
-            copy(&mut values[a..b], from);
-        }
-    }
-}
-
-pub fn keep_surface(
-    surfaces: &mut [f64],
-    kinds: &mut [u64],
-    i: u64,
-    surface: Surface,
-    eta: &[f64],
-    k: &[f64],
-) {
-    let from = (i % SURFACES) as usize * sizes::SURFACE;
+// Keeps a surface with its spectra, which have sizes::ENTRIES entries each.
+pub fn keep_surface(surfaces: &mut [f64], i: u64, surface: Surface, eta: &[f64], k: &[f64]) {
+    let from = surface_place(i);
     let kind = surface.kind;
-    keep_kind(kinds, (i % SURFACES) as usize, kind);
-    set(surfaces, from, surface.roughness.x);
-    set(surfaces, from + 1, surface.roughness.y);
-    copy_to(surfaces, from + sizes::ROUGHNESS, from + sizes::K, eta);
-    copy_to(surfaces, from + sizes::K, from + sizes::SURFACE, k);
+    let head = [surface.roughness.x, surface.roughness.y, kind_number(kind)];
+    put(surfaces, from, &head);
+    put(surfaces, from + sizes::ETA as u32, eta);
+    put(surfaces, from + sizes::K as u32, k);
 }
 
 // One number for every entry.

@@ -1,6 +1,6 @@
 // How the lines of a job were answered, which the figures' last line says.
-use crate::line;
-use crate::output;
+use text::line;
+use text::output;
 
 pub enum Outcome {
     // no word, or the rest of a line that is skipped

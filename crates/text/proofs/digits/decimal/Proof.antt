@@ -2,8 +2,8 @@
 use Prim.Native.Nat.{_-_}
 use lib.ListN.{length}
 use native.Mathlib.Omega.{arith}
-use Rattle.rays.proofs.line.decimal.Statement.{statement}
-use Rattle.rays.proofs.line.decimal.Tie as tie
+use Rattle.text.proofs.digits.decimal.Statement.{statement}
+use Rattle.text.proofs.digits.decimal.Tie as tie
 
 abbrev Inv-loop : tie.InvT-loop
 Inv-loop digits value₀ i₀ value i = Unit {0}

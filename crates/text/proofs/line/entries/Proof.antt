@@ -4,8 +4,8 @@ use Prim.Native.Nat.{_-_}
 use lib.ListN.{length, length-set}
 use native.Mathlib.Omega.{arith}
 use borrow.Author.Needs.{needs}
-use Rattle.rays.proofs.line.entries.Statement.{statement}
-use Rattle.rays.proofs.line.entries.Tie as tie
+use Rattle.text.proofs.line.entries.Statement.{statement}
+use Rattle.text.proofs.line.entries.Tie as tie
 
 abbrev Inv-loop : tie.InvT-loop
 Inv-loop text values₀ now₀ i₀ values now i = length values ≡ length values₀

@@ -1,8 +1,11 @@
-// The words of a line of a job. Blanks stand between words, and a `#` where a word would begin ends
-// the line. A cursor keeps the first fault that was met: past it nothing is read.
-use numbers::float;
-use optics::microfacet::Kind;
-ghost use Prim.Native.Nat.{_≤_};
+// The words of a line of a job, read one after the other. A cursor keeps the first fault that was met:
+// past it nothing is read.
+use crate::digits;
+use crate::floats;
+use crate::words;
+use crate::words::is_blank;
+use crate::words::part;
+use crate::words::same;
 
 // What is wrong with a line.
 pub enum Fault {
@@ -45,20 +48,9 @@ pub struct NumberRead {
     pub next: Cursor,
 }
 
-pub struct KindRead {
-    pub value: Kind,
-    pub next: Cursor,
-}
-
 pub struct EntriesRead {
     pub count: usize,
     pub next: Cursor,
-}
-
-// Sixteen hexadecimal digits, if they are `ok`.
-struct Digits {
-    ok: bool,
-    bits: u64,
 }
 
 impl Cursor {
@@ -97,59 +89,9 @@ pub fn next(n: u64) -> u64 {
     n
 }
 
-fn is_blank(b: u8) -> bool {
-    b == b' ' || b == b'\t' || b == b'\r'
-}
-
-// The byte, and a blank past the end.
-fn byte_at(text: &[u8], at: usize) -> u8 {
-    if at < text.len() {
-        return text[at];
-    }
-    b' '
-}
-
-// The part from `a` to `b`, empty where there is none.
-pub fn part(text: &[u8], a: usize, b: usize) -> &[u8] {
-    if a <= b {
-        if b <= text.len() {
-            return &text[a..b];
-        }
-    }
-    &text[..0]
-}
-
-// Where the next word begins; at the line's end, or a comment, the line's length.
-fn skip_blanks(text: &[u8], from: usize) -> usize {
-    let mut at = from;
-    while at < text.len() {
-        let b = text[at];
-        if b == b'#' {
-            return text.len();
-        }
-        if !is_blank(b) {
-            return at;
-        }
-        at += 1;
-    }
-    at
-}
-
-// Where the word ends that begins at `from`.
-fn word_end(text: &[u8], from: usize) -> usize {
-    let mut at = from;
-    while at < text.len() {
-        if is_blank(text[at]) {
-            return at;
-        }
-        at += 1;
-    }
-    at
-}
-
 // The cursor at the beginning of the next word.
 fn begin(text: &[u8], c: Cursor) -> Cursor {
-    let at = skip_blanks(text, c.at);
+    let at = words::skip_blanks(text, c.at);
     Cursor {
         at: at,
         words: next(c.words),
@@ -158,24 +100,10 @@ fn begin(text: &[u8], c: Cursor) -> Cursor {
     }
 }
 
-pub fn same(word: &[u8], name: &[u8]) -> bool {
-    if word.len() != name.len() {
-        return false;
-    }
-    let mut i: usize = 0;
-    while i < name.len() {
-        if byte_at(word, i) != name[i] {
-            return false;
-        }
-        i += 1;
-    }
-    true
-}
-
 // The next word, which a cursor at its beginning has.
 pub fn word(text: &[u8], c: Cursor) -> &[u8] {
     let from = c.at;
-    part(text, from, word_end(text, from))
+    part(text, from, words::word_end(text, from))
 }
 
 // The cursor at the line's first word.
@@ -184,7 +112,7 @@ pub fn first_word(text: &[u8]) -> Cursor {
 }
 
 pub fn behind_word(text: &[u8], c: Cursor) -> Cursor {
-    c.past(word_end(text, c.at))
+    c.past(words::word_end(text, c.at))
 }
 
 // Past the word `name`.
@@ -214,82 +142,6 @@ pub fn end(text: &[u8], c: Cursor) -> Cursor {
     b
 }
 
-// The value of a hexadecimal digit, and 16 for any other byte. The value is guessed from the byte's bits
-// and then looked at: whether a digit is a letter is no question to ask of each, since the digits of a
-// number follow no order that a processor could foresee.
-fn digit(b: u8) -> u64
-    ensures { λ r. ⌜ r ≤ 16 ⌝ }
-{
-    let v = b as u64;
-    let d = (v % 16 + v / 64 * 9) % 16;
-    if byte_at(b"0123456789abcdef", d as usize) == b {
-        return d;
-    }
-    if byte_at(b"0123456789ABCDEF", d as usize) == b {
-        return d;
-    }
-    16
-}
-
-// The value of four digits, and 65536 where one of them is none.
-fn hex4(a: u8, b: u8, c: u8, d: u8) -> u64
-    ensures { λ r. ⌜ r ≤ 65536 ⌝ }
-{
-    let p = digit(a);
-    let q = digit(b);
-    let r = digit(c);
-    let s = digit(d);
-    if p < 16 {
-        if q < 16 {
-            if r < 16 {
-                if s < 16 {
-                    return p * 4096 + q * 256 + r * 16 + s;
-                }
-            }
-        }
-    }
-    65536
-}
-
-// The value of eight digits, and 4294967296 where they are not eight or one of them is none.
-fn hex8(t: &[u8]) -> u64
-    ensures { λ r. ⌜ r ≤ 4294967296 ⌝ }
-{
-    if t.len() != 8 {
-        return 4294967296;
-    }
-    let a = hex4(t[0], t[1], t[2], t[3]);
-    let b = hex4(t[4], t[5], t[6], t[7]);
-    if a < 65536 {
-        if b < 65536 {
-            return a * 65536 + b;
-        }
-    }
-    4294967296
-}
-
-fn hex16(t: &[u8]) -> Digits {
-    let a = hex8(part(t, 0, 8));
-    let b = hex8(part(t, 8, 16));
-    if a < 4294967296 {
-        if b < 4294967296 {
-            return Digits {
-                ok: true,
-                bits: a * 4294967296 + b,
-            };
-        }
-    }
-    Digits { ok: false, bits: 0 }
-}
-
-// The float of a bit pattern; every NaN's is one NaN.
-fn float_of(bits: u64) -> f64 {
-    if bits % 9223372036854775808 > 9218868437227405312 {
-        return float::nan();
-    }
-    f64::from_bits(bits)
-}
-
 fn no_number(c: Cursor, fault: Fault) -> NumberRead {
     NumberRead {
         value: 0.0,
@@ -314,15 +166,15 @@ pub fn number(text: &[u8], c: Cursor) -> NumberRead {
         return no_number(b, Fault::Number);
     }
     let end = at + 16;
-    if !is_blank(byte_at(text, end)) {
+    if !is_blank(words::byte_at(text, end)) {
         return no_number(b, Fault::Number);
     }
-    let digits = hex16(part(text, at, end));
-    if !digits.ok {
+    let read = digits::hex16(part(text, at, end));
+    if !read.ok {
         return no_number(b, Fault::Number);
     }
     NumberRead {
-        value: float_of(digits.bits),
+        value: floats::of_bits(read.bits),
         next: b.past(end),
     }
 }
@@ -377,24 +229,6 @@ pub fn entries(text: &[u8], c: Cursor, values: &mut [f64]) -> EntriesRead {
     }
 }
 
-// The value of decimal digits, and 10000 where they are more than four or one of them is none.
-fn decimal(digits: &[u8]) -> u64 {
-    if 4 < digits.len() {
-        return 10000;
-    }
-    let mut value: u64 = 0;
-    let mut i: usize = 0;
-    while i < digits.len() {
-        let d = digit(byte_at(digits, i));
-        if 9 < d {
-            return 10000;
-        }
-        value = (value % 1000) * 10 + d;
-        i += 1;
-    }
-    value
-}
-
 // An index below `limit`.
 pub fn index(text: &[u8], c: Cursor, limit: u64, fault: Fault) -> IndexRead {
     if !c.ok {
@@ -407,7 +241,7 @@ pub fn index(text: &[u8], c: Cursor, limit: u64, fault: Fault) -> IndexRead {
             next: b.wrong(Fault::Short),
         };
     }
-    let value = decimal(word(text, b));
+    let value = digits::decimal(word(text, b));
     if value < limit {
         return IndexRead {
             value: value,
@@ -430,34 +264,36 @@ pub fn flag(text: &[u8], c: Cursor) -> FlagRead {
     }
 }
 
-pub fn kind(text: &[u8], c: Cursor) -> KindRead {
+// One of two words; whether it is the second.
+pub fn either(text: &[u8], c: Cursor, first: &[u8], second: &[u8], fault: Fault) -> FlagRead {
     if !c.ok {
-        return KindRead {
-            value: Kind::Metal,
+        return FlagRead {
+            value: false,
             next: c,
         };
     }
     let b = begin(text, c);
-    if same(word(text, b), b"metal") {
-        return KindRead {
-            value: Kind::Metal,
-            next: behind_word(text, b),
-        };
-    }
-    if same(word(text, b), b"glass") {
-        return KindRead {
-            value: Kind::Glass,
-            next: behind_word(text, b),
-        };
-    }
     if text.len() <= b.at {
-        return KindRead {
-            value: Kind::Metal,
+        return FlagRead {
+            value: false,
             next: b.wrong(Fault::Short),
         };
     }
-    KindRead {
-        value: Kind::Metal,
-        next: b.wrong(Fault::Kind),
+    let word = word(text, b);
+    if same(word, first) {
+        return FlagRead {
+            value: false,
+            next: behind_word(text, b),
+        };
+    }
+    if same(word, second) {
+        return FlagRead {
+            value: true,
+            next: behind_word(text, b),
+        };
+    }
+    FlagRead {
+        value: false,
+        next: b.wrong(fault),
     }
 }

@@ -4,8 +4,8 @@ use Prim.Native.Nat.{_-_}
 use lib.ListN.{length}
 use native.Mathlib.Omega.{arith}
 use borrow.Author.Needs.{needs}
-use Rattle.rays.proofs.output.text.Statement.{statement}
-use Rattle.rays.proofs.output.text.Tie as tie
+use Rattle.text.proofs.output.text.Statement.{statement}
+use Rattle.text.proofs.output.text.Tie as tie
 
 abbrev Inv-loop : tie.InvT-loop
 Inv-loop out₀ n t used₀ i₀ out used i = length out ≡ length out₀

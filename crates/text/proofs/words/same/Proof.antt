@@ -2,8 +2,8 @@
 use Prim.Native.Nat.{_-_}
 use lib.ListN.{length}
 use native.Mathlib.Omega.{arith}
-use Rattle.rays.proofs.line.same.Statement.{statement}
-use Rattle.rays.proofs.line.same.Tie as tie
+use Rattle.text.proofs.words.same.Statement.{statement}
+use Rattle.text.proofs.words.same.Tie as tie
 
 abbrev Inv-loop : tie.InvT-loop
 Inv-loop word name i₀ i = Unit {0}

@@ -1,7 +1,6 @@
 // Text put behind the first `n` bytes of a buffer. Each function answers how many bytes are used then;
 // what finds no room is left out.
-use numbers::vec3::Vec3;
-use optics::color::Color;
+use crate::floats;
 
 fn byte(out: &mut [u8], n: usize, b: u8) -> usize {
     if n < out.len() {
@@ -21,10 +20,26 @@ pub fn text(out: &mut [u8], n: usize, t: &[u8]) -> usize {
     used
 }
 
+// The digit of a value that counts in `unit`, a power of ten; a 0 before all others is left out.
+fn decimal_digit(out: &mut [u8], n: usize, value: u64, unit: u64) -> usize {
+    if unit == 0 {
+        return n;
+    }
+    if value < unit && unit != 1 {
+        return n;
+    }
+    byte(out, n, glyph(value / unit % 10))
+}
+
+// The decimal digits of a value.
 pub fn decimal(out: &mut [u8], n: usize, value: u64) -> usize {
-    let mut digits = [0u8; 20];
-    let k = io::decimal(value, &mut digits);
-    text(out, n, &digits[..k])
+    let mut used = n;
+    let mut unit: u64 = 10000000000000000000;
+    while unit > 0 {
+        used = decimal_digit(out, used, value, unit);
+        unit /= 10;
+    }
+    used
 }
 
 fn glyph(d: u64) -> u8 {
@@ -49,29 +64,8 @@ fn hex16(out: &mut [u8], n: usize, bits: u64) -> usize {
     hex4(out, c, bits)
 }
 
-// The bit pattern of a float, and one pattern for every NaN.
-fn bits(x: f64) -> u64 {
-    if x != x {
-        return 0x7ff8000000000000;
-    }
-    f64::to_bits(x)
-}
-
 // A blank and the number.
 pub fn number(out: &mut [u8], n: usize, x: f64) -> usize {
     let a = byte(out, n, b' ');
-    hex16(out, a, bits(x))
-}
-
-pub fn vec3(out: &mut [u8], n: usize, v: Vec3) -> usize {
-    let x = number(out, n, v.x);
-    let y = number(out, x, v.y);
-    number(out, y, v.z)
-}
-
-pub fn color(out: &mut [u8], n: usize, a: Color) -> usize {
-    let s0 = number(out, n, a.s0);
-    let s1 = number(out, s0, a.s1);
-    let s2 = number(out, s1, a.s2);
-    number(out, s2, a.s3)
+    hex16(out, a, floats::bits(x))
 }

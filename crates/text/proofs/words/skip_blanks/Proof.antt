@@ -2,8 +2,8 @@
 use Prim.Native.Nat.{_-_}
 use lib.ListN.{length}
 use native.Mathlib.Omega.{arith}
-use Rattle.rays.proofs.line.skip_blanks.Statement.{statement}
-use Rattle.rays.proofs.line.skip_blanks.Tie as tie
+use Rattle.text.proofs.words.skip_blanks.Statement.{statement}
+use Rattle.text.proofs.words.skip_blanks.Tie as tie
 
 abbrev Inv-loop : tie.InvT-loop
 Inv-loop text from at₀ at = Unit {0}
