@@ -14,7 +14,7 @@ ghost use mathlib.Core.Path.{_≡_};
 ghost use Rattle.numbers.specs.Checked.{ofDirection, changeToLocal, changeToWorld, hemisphere};
 ghost use Rattle.numbers.specs.Onb.{basis};
 ghost use Rattle.numbers.specs.SphericalUtils.{cosPhi, sinPhi, cosTheta, sinTheta, tanTheta, cos2Theta, sin2Theta, tan2Theta};
-ghost use Rattle.optics.specs.Checked as Checked;
+ghost use Rattle.counter.specs.Counter as Counter;
 ghost use Rattle.rulvimba.specs.Results.{floatResult, vec3Result};
 ghost use Rattle.rulvimba.specs.Surfaces.{surfaceWith};
 ghost use Rattle.compare_path.specs.Results.{boolResult, onbResult};
@@ -109,9 +109,9 @@ pub extern "C" fn optics_checked_is_delta(
     eta: &[f64],
     k: &[f64],
 ) -> BoolResult
-    ensures { λ r. ⌜ r ≡ boolResult (Checked.isDelta (surfaceWith surface (now (eta .entry)) (now (k .entry)))) ⌝ }
+    ensures { λ r. ⌜ r ≡ boolResult (Counter.isDelta (surfaceWith surface (now (eta .entry)) (now (k .entry)))) ⌝ }
 {
-    results::of_bool(optics::checked::is_delta(surfaces::of_record(surface), eta, k))
+    results::of_bool(counter::is_delta(surfaces::of_record(surface), eta, k))
 }
 
 #[no_mangle]
@@ -122,9 +122,9 @@ pub extern "C" fn optics_checked_chi_pass(
     wo: Vec3,
     wh: Vec3,
 ) -> BoolResult
-    ensures { λ r. ⌜ r ≡ boolResult (Checked.chiPass (surfaceWith surface (now (eta .entry)) (now (k .entry))) wo wh) ⌝ }
+    ensures { λ r. ⌜ r ≡ boolResult (Counter.chiPass (surfaceWith surface (now (eta .entry)) (now (k .entry))) wo wh) ⌝ }
 {
-    results::of_bool(optics::checked::chi_pass(surfaces::of_record(surface), eta, k, wo, wh))
+    results::of_bool(counter::chi_pass(surfaces::of_record(surface), eta, k, wo, wh))
 }
 
 #[no_mangle]
@@ -136,14 +136,7 @@ pub extern "C" fn optics_checked_disney_diffuse(
     wi: f64,
     wh: f64,
 ) -> FloatResult
-    ensures { λ r. ⌜ r ≡ floatResult (Checked.disneyDiffuse (surfaceWith surface (now (eta .entry)) (now (k .entry))) wo wi wh) ⌝ }
+    ensures { λ r. ⌜ r ≡ floatResult (Counter.disneyDiffuse (surfaceWith surface (now (eta .entry)) (now (k .entry))) wo wi wh) ⌝ }
 {
-    records::of_float(optics::checked::disney_diffuse(
-        surfaces::of_record(surface),
-        eta,
-        k,
-        wo,
-        wi,
-        wh,
-    ))
+    records::of_float(counter::disney_diffuse(surfaces::of_record(surface), eta, k, wo, wi, wh))
 }

@@ -1,4 +1,6 @@
 // Answers that librulvimba has none of, laid out for C as it lays out its own.
+use counter::ReflectAnswer;
+use counter::RefractAnswer;
 use numbers::checked::BoolAnswer;
 use numbers::checked::OnbAnswer;
 use numbers::onb::Onb;
@@ -6,8 +8,6 @@ use numbers::vec3::Vec3;
 use optics::bxdf::Reflected;
 use optics::bxdf::Refracted;
 use optics::bxdf::Sampled;
-use optics::checked::ReflectAnswer;
-use optics::checked::RefractAnswer;
 use rulvimba::records;
 use rulvimba::records::DirectionResult;
 ghost use mathlib.Core.Path.{_≡_};

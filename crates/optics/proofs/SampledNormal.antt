@@ -30,7 +30,7 @@ use Rattle.numbers.specs.Onb.{basis, toLocal}
 use Rattle.numbers.specs.declared.vec2.Vec2.{Vec2}
 use Rattle.numbers.specs.declared.vec3.Vec3.{Vec3}
 use Rattle.optics.specs.Surface.{roughnessMin, isRoughness, roughnessHolds}
-use Rattle.optics.specs.Checked.{isRandom, isCirclePair}
+use Rattle.optics.specs.Check.{isRandom, isCirclePair}
 use Rattle.optics.specs.Sampler.{stretched, upright, viewed, tangent, lerp, diskX, diskH, diskY, diskZ, onHemisphere, combined, unstretched, sampleNormal}
 use Rattle.numbers.proofs.Rounding.Sizes.{Upto, Span, widen, Sized, limits, vars-of, bd-upto, upto-bd, expression, f0-upto, f1-upto, f1-parts, f0-parts, mag-neg, neg-upto, zero-N, not-neg, in-disk, nlt-parts, lt-zero, root-upto, root-max, half}
 

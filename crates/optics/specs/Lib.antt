@@ -7,5 +7,5 @@ pub mod Sampler
 pub mod Bxdf
 pub mod Density
 pub mod SharedTerms
-pub mod Checked
+pub mod Check
 pub mod Samples

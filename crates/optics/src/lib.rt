@@ -2,6 +2,6 @@
 // mirror, bend and densities. Every public function equals a definition of specs/, for every input;
 // the calls that refuse by document 01's numbers stand in `checked`.
 pub mod bxdf;
-pub mod checked;
+pub mod check;
 pub mod color;
 pub mod microfacet;

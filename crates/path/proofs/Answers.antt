@@ -11,7 +11,7 @@ use Rattle.optics.specs.Surface.{Microsurface}
 use Rattle.optics.specs.Bxdf.{Scattered, scattered, totally}
 use Rattle.optics.specs.Bxdf as Bxdf
 use Rattle.numbers.specs.Checked.{checkDirection}
-use Rattle.optics.specs.Checked.{checkSpectra, checkSurface, checkRandom, checkCirclePair}
+use Rattle.optics.specs.Check.{checkSpectra, checkSurface, checkRandom, checkCirclePair}
 use Rattle.path.specs.declared.records.Path.{Path}
 use Rattle.path.specs.declared.records.Bounce.{Bounce}
 use Rattle.path.specs.declared.records.Bounced.{Bounced}

@@ -7,7 +7,7 @@ use Rattle.numbers.specs.Refusal.{accepted}
 use Rattle.numbers.specs.Checked.{checkDirection}
 use Rattle.numbers.proofs.refusal.Checks.{test-passed, first-passed, next-passed}
 use Rattle.optics.specs.Surface.{Microsurface, roughnessHolds, etaHolds, kHolds}
-use Rattle.optics.specs.Checked.{checkSpectra, checkSurface, checkRandom, checkCirclePair, isRandom, isCirclePair}
+use Rattle.optics.specs.Check.{checkSpectra, checkSurface, checkRandom, checkCirclePair, isRandom, isCirclePair}
 use Rattle.optics.specs.Color.{all4}
 use Rattle.path.specs.declared.records.Path.{Path}
 use Rattle.path.specs.declared.records.Bounce.{Bounce}

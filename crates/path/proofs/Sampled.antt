@@ -19,7 +19,7 @@ use Rattle.optics.specs.Surface.{Microsurface, constantEta, kAt, kHolds}
 use Rattle.optics.specs.Facets.{isDelta, g1, g, gOverG1}
 use Rattle.optics.specs.Sampler.{sampleNormal}
 use Rattle.optics.specs.Bxdf.{Scattered, scattered, lost, totally, conductorNormal, conductorFrom, isSmooth, dielectricNormal}
-use Rattle.optics.specs.Checked.{isRandom}
+use Rattle.optics.specs.Check.{isRandom}
 use Rattle.optics.specs.declared.color.Color.{Color}
 use Rattle.optics.specs.declared.microfacet.Kind.{Kind}
 use Rattle.optics.specs.declared.microfacet.Kind.the-variants.{Metal, Glass}

@@ -26,7 +26,7 @@ use Rattle.optics.specs.Bxdf.{scattered, direction, mirrored, reflect, bent, ac
 use Rattle.optics.specs.Density.{onZSide, atZ, conductorHalf, conductorPdfFrom, conductorPdf, etaRatio, dielectricHalf, isDiscarded, reflectedPdf, passedPdf, dielectricPdfFrom, dielectricPdf, pdfOf, pdf}
 use Rattle.numbers.specs.Refusal.{_then_, accepted, refuse}
 use Rattle.numbers.specs.Checked.{checkDirection}
-use Rattle.optics.specs.Checked.{checkSpectra, checkSurface, isRandom, checkRandom, isCirclePair, checkCirclePair}
+use Rattle.optics.specs.Check.{checkSpectra, checkSurface, isRandom, checkRandom, isCirclePair, checkCirclePair}
 use Rattle.optics.specs.Samples.{quarter, three-quarters}
 use Rattle.optics.specs.declared.microfacet.Kind.the-variants.{Metal, Glass}
 use Rattle.optics.proofs.Samples as Optics

@@ -13,7 +13,7 @@ use Rattle.optics.specs.Fresnel.{fAt}
 use Rattle.optics.specs.Bxdf.{Scattered, scattered, lost, totally, conductorNormal, conductorFrom, isSmooth, dielectricNormal, dielectricFrom}
 use Rattle.numbers.specs.Refusal.{Verdict, _then_, refuse}
 use Rattle.numbers.specs.Checked.{checkDirection}
-use Rattle.optics.specs.Checked.{checkSurface, checkRandom, checkCirclePair}
+use Rattle.optics.specs.Check.{checkSurface, checkRandom, checkCirclePair}
 use Rattle.optics.specs.declared.{color.Color.Color, microfacet.Kind.Kind, microfacet.Kind.the-variants.Metal, microfacet.Kind.the-variants.Glass}
 pub use Rattle.path.specs.declared.records.Bounce.{Bounce}
 use Rattle.path.specs.Path.{Path, path, each2, each3, weighed, leading, terminate, isPathLambda, isPower, isFilter}

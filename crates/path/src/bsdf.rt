@@ -15,7 +15,7 @@ use numbers::vec3::Vec3;
 use optics::bxdf::Sampled;
 use optics::bxdf::conductor;
 use optics::bxdf::dielectric;
-use optics::checked;
+use optics::check::check_surface;
 use optics::color::Color;
 use optics::microfacet;
 use optics::microfacet::Ggx;
@@ -25,7 +25,7 @@ ghost use mathlib.Core.Path.{_≡_};
 ghost use Rattle.numbers.specs.Float.{f0};
 ghost use Rattle.optics.specs.Color.{color};
 ghost use Rattle.numbers.specs.Refusal.{verdict};
-ghost use Rattle.optics.specs.Checked.{checkSurface};
+ghost use Rattle.optics.specs.Check.{checkSurface};
 ghost use Rattle.optics.specs.Surface.{microsurface, constantEta};
 ghost use Rattle.optics.specs.Facets.{isDelta};
 ghost use Rattle.optics.specs.Bxdf.{isSmooth};
@@ -40,7 +40,7 @@ ghost use Rattle.path.specs.Answer.{outcome, lost, densityOf, branchOf, 
 pub fn bounce(path: Path, surface: Surface, eta: &[f64], k: &[f64], b: Bounce) -> Bounced
     ensures { λ r. ⌜ outcome r ≡ bounce path (microsurface surface (now (eta .entry)) (now (k .entry))) b ⌝ }
 {
-    let check = checked::check_surface(surface, eta, k);
+    let check = check_surface(surface, eta, k);
     bounce_with(check, Constant::Unknown, path, surface, eta, k, b)
 }
 

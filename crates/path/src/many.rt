@@ -8,7 +8,7 @@ use crate::records::Bounced;
 use crate::records::Path;
 use numbers::refusal::Check;
 use numbers::vec3::Vec3;
-use optics::checked;
+use optics::check::check_surface;
 use optics::color::Color;
 use optics::microfacet::Surface;
 ghost use mathlib.Core.Path.{_≡_};
@@ -17,7 +17,7 @@ ghost use Prim.Native.Nat.{_+_, _*_, _≤_};
 ghost use lib.ListN.{length, drop};
 ghost use lib.Seq.{paste};
 ghost use Rattle.numbers.specs.Refusal.{verdict};
-ghost use Rattle.optics.specs.Checked.{checkSurface};
+ghost use Rattle.optics.specs.Check.{checkSurface};
 ghost use Rattle.optics.specs.Surface.{microsurface, constantEta};
 ghost use Rattle.path.specs.Known.{constantFrom};
 ghost use Rattle.path.specs.Answer.{outcome};
@@ -202,7 +202,7 @@ pub fn bounces(surface: Surface, eta: &[f64], k: &[f64], input: &[f64], output: 
     ensures { λ r. ⌜ (r ≡ countOf (length (now (input .entry))) (length (now (output .entry)))) × (now (output .exit) ≡ allBounced (microsurface surface (now (eta .entry)) (now (k .entry))) (now (input .entry)) r ++ drop (18 * r) (now (output .entry))) ⌝ }
 {
     let n = count(input.len(), output.len());
-    let check = checked::check_surface(surface, eta, k);
+    let check = check_surface(surface, eta, k);
     let constant = bsdf::constant_on(surface, eta);
     run(check, constant, surface, eta, k, input, output, n);
     n

@@ -5,12 +5,11 @@ use crate::sizes;
 use crate::store;
 use crate::tally::Answered;
 use crate::tally::Outcome;
+use counter::SurfaceAnswer;
 use numbers::checked::FloatAnswer;
 use numbers::refusal::Refusal;
 use numbers::vec3::Vec3;
 use optics::bxdf::dielectric;
-use optics::checked;
-use optics::checked::SurfaceAnswer;
 use optics::microfacet;
 use optics::microfacet::Ggx;
 use optics::microfacet::Kind;
@@ -220,7 +219,7 @@ fn make(
     out: &mut [u8],
     n: usize,
 ) -> Answered {
-    match checked::make_surface(kind_of(glass), roughness, eta, k) {
+    match counter::make_surface(kind_of(glass), roughness, eta, k) {
         SurfaceAnswer::Refused(why) => return refused(out, n, why),
         SurfaceAnswer::Given(surface) => {
             store::keep_surface(surfaces, i, surface, eta, k);
@@ -393,7 +392,7 @@ fn density_on(
     let wi = vec3(w, 3);
     let a = head(out, n, b" density ", s);
     let lambda = store::at(w, 6);
-    match checked::pdf(surface, eta, k, wo, wi, reflection, lambda) {
+    match counter::pdf(surface, eta, k, wo, wi, reflection, lambda) {
         FloatAnswer::Refused(why) => refused(out, a, why),
         FloatAnswer::Given(x) => {
             let b = measured(out, a, x, measure_on(surface, eta, lambda));

@@ -2,6 +2,8 @@
 use crate::words;
 use crate::words::same_direction;
 use crate::words::same_float;
+use counter::ReflectAnswer;
+use counter::RefractAnswer;
 use numbers::vec3::Vec3;
 use optics::bxdf;
 use optics::bxdf::Reflected;
@@ -9,8 +11,6 @@ use optics::bxdf::Refracted;
 use optics::bxdf::Sampled;
 use optics::bxdf::conductor;
 use optics::bxdf::dielectric;
-use optics::checked::ReflectAnswer;
-use optics::checked::RefractAnswer;
 use optics::microfacet;
 use optics::microfacet::Ggx;
 use rulvimba::records;

@@ -4,10 +4,9 @@ use crate::words;
 use crate::words::same_bool_answer;
 use crate::words::same_direction;
 use crate::words::same_float_answer;
+use counter::ColorAnswer;
+use counter::SurfaceAnswer;
 use numbers::vec2::Vec2;
-use optics::checked;
-use optics::checked::ColorAnswer;
-use optics::checked::SurfaceAnswer;
 use optics::microfacet;
 use optics::microfacet::Kind;
 use optics::microfacet::Surface;
@@ -46,13 +45,13 @@ pub fn replay(fd: i32, number: u64, w: &[f64; 30], eta: &[f64], k: &[f64]) -> bo
     let v = words::vec3(w, 3);
     let u = words::vec3(w, 6);
     match number {
-        951 => same_bool_answer(fd, checked::is_delta(s, eta, k)),
-        952 => same_float_answer(fd, checked::lambda(s, eta, k, v)),
-        953 => same_bool_answer(fd, checked::chi_pass(s, eta, k, v, u)),
-        954 => same_float_answer(fd, checked::g1(s, eta, k, v, u)),
-        955 => same_float_answer(fd, checked::g(s, eta, k, v, u, words::vec3(w, 9))),
-        956 => same_float_answer(fd, checked::d(s, eta, k, v)),
-        957 => same_float_answer(fd, checked::disney_diffuse(s, eta, k, v.x, v.y, v.z)),
+        951 => same_bool_answer(fd, counter::is_delta(s, eta, k)),
+        952 => same_float_answer(fd, counter::lambda(s, eta, k, v)),
+        953 => same_bool_answer(fd, counter::chi_pass(s, eta, k, v, u)),
+        954 => same_float_answer(fd, counter::g1(s, eta, k, v, u)),
+        955 => same_float_answer(fd, counter::g(s, eta, k, v, u, words::vec3(w, 9))),
+        956 => same_float_answer(fd, counter::d(s, eta, k, v)),
+        957 => same_float_answer(fd, counter::disney_diffuse(s, eta, k, v.x, v.y, v.z)),
         _ => scattered(fd, number, s, w, eta, k),
     }
 }
@@ -63,15 +62,15 @@ fn scattered(fd: i32, number: u64, s: Surface, w: &[f64; 30], eta: &[f64], k: &[
     let v = words::vec3(w, 3);
     let u = words::vec3(w, 6);
     match number {
-        958 => same_float_answer(fd, checked::f_at(s, eta, k, v, u, w[9])),
-        959 => same_color_answer(fd, checked::f(s, eta, k, v, u, words::color(w, 9))),
+        958 => same_float_answer(fd, counter::f_at(s, eta, k, v, u, w[9])),
+        959 => same_color_answer(fd, counter::f(s, eta, k, v, u, words::color(w, 9))),
         960 => {
-            let n = checked::sample_normal(s, eta, k, v, u.x, u.y, u.z);
+            let n = counter::sample_normal(s, eta, k, v, u.x, u.y, u.z);
             words::same_vec3_answer(fd, n)
         }
         961 => {
             let reflection = words::is_true(w[9]);
-            same_float_answer(fd, checked::pdf(s, eta, k, v, u, reflection, w[10]))
+            same_float_answer(fd, counter::pdf(s, eta, k, v, u, reflection, w[10]))
         }
         _ => apart(fd, number, w, eta, k),
     }
@@ -87,14 +86,14 @@ fn apart(fd: i32, number: u64, w: &[f64; 30], eta: &[f64], k: &[f64]) -> bool {
         933 => words::same_float(fd, microfacet::k_at(k, v.x)),
         934 => words::same_color(fd, microfacet::f(eta, k, v, u, words::color(w, 9))),
         962 => {
-            let made = checked::make_surface(words::kind(w[0]), w[1], eta, k);
+            let made = counter::make_surface(words::kind(w[0]), w[1], eta, k);
             same_surface_answer(fd, made)
         }
-        963 => same_direction(fd, records::of_reflect(checked::reflect(v, u))),
+        963 => same_direction(fd, records::of_reflect(counter::reflect(v, u))),
         964 => {
             let wo = words::vec3(w, 4);
             let n = words::vec3(w, 7);
-            same_direction(fd, records::of_refract(checked::refract(v.x, wo, n)))
+            same_direction(fd, records::of_refract(counter::refract(v.x, wo, n)))
         }
         _ => false,
     }

@@ -7,7 +7,8 @@ use borrow.Author.Tests.{lt-leb}
 use Rattle.numbers.specs.Float.{within, decimal}
 use Rattle.numbers.specs.Refusal.{refused, rejected, refuse, _then_, _▷_}
 use Rattle.optics.specs.Surface.{kindOf, roughnessMin, isRoughness, roughnessHolds, isRoughnessGiven}
-use Rattle.optics.specs.Checked.{checkSurface, makeSurface}
+use Rattle.optics.specs.Check.{checkSurface}
+use Rattle.counter.specs.Counter.{makeSurface}
 use Rattle.rulvimba.specs.declared.surfaces.SurfaceRecord.{SurfaceRecord}
 use Rattle.rulvimba.specs.Surfaces.{roughnessOf, surfaceOf, surfaceWith}
 

@@ -1,17 +1,17 @@
 // The answers as records for C: document 01's number, which is 0 where the call is accepted, and the
 // values, which are zeros where there are none.
+use counter::ColorAnswer;
+use counter::ReflectAnswer;
+use counter::RefractAnswer;
 use numbers::checked::FloatAnswer;
 use numbers::checked::Vec3Answer;
 use numbers::refusal::Check;
 use numbers::vec3::Vec3;
-use optics::checked::ColorAnswer;
-use optics::checked::ReflectAnswer;
-use optics::checked::RefractAnswer;
 use optics::color::Color;
 ghost use mathlib.Core.Path.{_≡_};
 ghost use Rattle.numbers.specs.Checked.{floatAnswer, vec3Answer};
 ghost use Rattle.numbers.specs.Refusal.{verdict};
-ghost use Rattle.optics.specs.Checked.{colorAnswer, reflectAnswer, refractAnswer};
+ghost use Rattle.counter.specs.Counter.{colorAnswer, reflectAnswer, refractAnswer};
 ghost use Rattle.rulvimba.specs.Results.{checkNumber, floatResult, colorResult, vec3Result, directionResult};
 
 #[repr(C)]

@@ -1,17 +1,18 @@
 // Surfaces as records for C, whose kind is its code. A number that is no kind's is refused as 1, by a
 // roughness that no check accepts.
 use crate::records;
+use counter::SurfaceAnswer;
 use numbers::float;
 use numbers::vec2::Vec2;
-use optics::checked;
-use optics::checked::SurfaceAnswer;
+use optics::check;
 use optics::microfacet::Kind;
 use optics::microfacet::METAL_CODE;
 use optics::microfacet::Surface;
 ghost use mathlib.Core.Path.{_≡_};
 ghost use Rattle.optics.specs.Surface.{kindOf};
-ghost use Rattle.optics.specs.Checked as Checked;
-ghost use Rattle.optics.specs.Checked.{surfaceAnswer};
+ghost use Rattle.optics.specs.Check.{checkSurface};
+ghost use Rattle.counter.specs.Counter as Counter;
+ghost use Rattle.counter.specs.Counter.{surfaceAnswer};
 ghost use Rattle.rulvimba.specs.Surfaces.{roughnessOf, surfaceOf, surfaceWith, surfaceResult};
 ghost use Rattle.rulvimba.specs.Results.{checkNumber};
 
@@ -86,15 +87,15 @@ pub extern "C" fn rulvimba_make_surface(
     eta: &[f64],
     k: &[f64],
 ) -> SurfaceResult
-    ensures { λ r. ⌜ r ≡ surfaceResult (Checked.makeSurface (kindOf kind) (roughnessOf kind roughness) (now (eta .entry)) (now (k .entry))) ⌝ }
+    ensures { λ r. ⌜ r ≡ surfaceResult (Counter.makeSurface (kindOf kind) (roughnessOf kind roughness) (now (eta .entry)) (now (k .entry))) ⌝ }
 {
-    of_made(checked::make_surface(Kind::of_code(kind), roughness_of(kind, roughness), eta, k))
+    of_made(counter::make_surface(Kind::of_code(kind), roughness_of(kind, roughness), eta, k))
 }
 
 // The number that the fields of a surface are refused with, or 0.
 #[no_mangle]
 pub extern "C" fn rulvimba_check_surface(surface: SurfaceRecord, eta: &[f64], k: &[f64]) -> u64
-    ensures { λ r. ⌜ r ≡ checkNumber (Checked.checkSurface (surfaceWith surface (now (eta .entry)) (now (k .entry)))) ⌝ }
+    ensures { λ r. ⌜ r ≡ checkNumber (checkSurface (surfaceWith surface (now (eta .entry)) (now (k .entry)))) ⌝ }
 {
-    records::of_check(checked::check_surface(of_record(surface), eta, k))
+    records::of_check(check::check_surface(of_record(surface), eta, k))
 }

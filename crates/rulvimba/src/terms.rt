@@ -7,11 +7,10 @@ use crate::records::Vec3Result;
 use crate::surfaces;
 use crate::surfaces::SurfaceRecord;
 use numbers::vec3::Vec3;
-use optics::checked;
 use optics::color::Color;
 ghost use mathlib.Core.Path.{_≡_};
 ghost use Rattle.numbers.specs.Checked.{lookup};
-ghost use Rattle.optics.specs.Checked as Checked;
+ghost use Rattle.counter.specs.Counter as Counter;
 ghost use Rattle.rulvimba.specs.Surfaces.{surfaceWith};
 ghost use Rattle.rulvimba.specs.Results.{floatResult, colorResult, vec3Result, directionResult};
 
@@ -30,9 +29,9 @@ pub extern "C" fn rulvimba_lambda(
     k: &[f64],
     w: Vec3,
 ) -> FloatResult
-    ensures { λ r. ⌜ r ≡ floatResult (Checked.lambda (surfaceWith surface (now (eta .entry)) (now (k .entry))) w) ⌝ }
+    ensures { λ r. ⌜ r ≡ floatResult (Counter.lambda (surfaceWith surface (now (eta .entry)) (now (k .entry))) w) ⌝ }
 {
-    records::of_float(checked::lambda(surfaces::of_record(surface), eta, k, w))
+    records::of_float(counter::lambda(surfaces::of_record(surface), eta, k, w))
 }
 
 #[no_mangle]
@@ -43,9 +42,9 @@ pub extern "C" fn rulvimba_g1(
     wo: Vec3,
     wh: Vec3,
 ) -> FloatResult
-    ensures { λ r. ⌜ r ≡ floatResult (Checked.g1 (surfaceWith surface (now (eta .entry)) (now (k .entry))) wo wh) ⌝ }
+    ensures { λ r. ⌜ r ≡ floatResult (Counter.g1 (surfaceWith surface (now (eta .entry)) (now (k .entry))) wo wh) ⌝ }
 {
-    records::of_float(checked::g1(surfaces::of_record(surface), eta, k, wo, wh))
+    records::of_float(counter::g1(surfaces::of_record(surface), eta, k, wo, wh))
 }
 
 #[no_mangle]
@@ -57,9 +56,9 @@ pub extern "C" fn rulvimba_g(
     wi: Vec3,
     wh: Vec3,
 ) -> FloatResult
-    ensures { λ r. ⌜ r ≡ floatResult (Checked.g (surfaceWith surface (now (eta .entry)) (now (k .entry))) wo wi wh) ⌝ }
+    ensures { λ r. ⌜ r ≡ floatResult (Counter.g (surfaceWith surface (now (eta .entry)) (now (k .entry))) wo wi wh) ⌝ }
 {
-    records::of_float(checked::g(surfaces::of_record(surface), eta, k, wo, wi, wh))
+    records::of_float(counter::g(surfaces::of_record(surface), eta, k, wo, wi, wh))
 }
 
 #[no_mangle]
@@ -69,9 +68,9 @@ pub extern "C" fn rulvimba_d(
     k: &[f64],
     wh: Vec3,
 ) -> FloatResult
-    ensures { λ r. ⌜ r ≡ floatResult (Checked.d (surfaceWith surface (now (eta .entry)) (now (k .entry))) wh) ⌝ }
+    ensures { λ r. ⌜ r ≡ floatResult (Counter.d (surfaceWith surface (now (eta .entry)) (now (k .entry))) wh) ⌝ }
 {
-    records::of_float(checked::d(surfaces::of_record(surface), eta, k, wh))
+    records::of_float(counter::d(surfaces::of_record(surface), eta, k, wh))
 }
 
 // ---- Fresnel, at one wavelength and at four
@@ -84,9 +83,9 @@ pub extern "C" fn rulvimba_fresnel_at(
     wh: Vec3,
     lambda: f64,
 ) -> FloatResult
-    ensures { λ r. ⌜ r ≡ floatResult (Checked.fAt (surfaceWith surface (now (eta .entry)) (now (k .entry))) wo wh lambda) ⌝ }
+    ensures { λ r. ⌜ r ≡ floatResult (Counter.fAt (surfaceWith surface (now (eta .entry)) (now (k .entry))) wo wh lambda) ⌝ }
 {
-    records::of_float(checked::f_at(surfaces::of_record(surface), eta, k, wo, wh, lambda))
+    records::of_float(counter::f_at(surfaces::of_record(surface), eta, k, wo, wh, lambda))
 }
 
 #[no_mangle]
@@ -98,9 +97,9 @@ pub extern "C" fn rulvimba_fresnel(
     wh: Vec3,
     lambda: Color,
 ) -> ColorResult
-    ensures { λ r. ⌜ r ≡ colorResult (Checked.f (surfaceWith surface (now (eta .entry)) (now (k .entry))) wo wh lambda) ⌝ }
+    ensures { λ r. ⌜ r ≡ colorResult (Counter.f (surfaceWith surface (now (eta .entry)) (now (k .entry))) wo wh lambda) ⌝ }
 {
-    records::of_color(checked::f(surfaces::of_record(surface), eta, k, wo, wh, lambda))
+    records::of_color(counter::f(surfaces::of_record(surface), eta, k, wo, wh, lambda))
 }
 
 // ---- sampler, mirror, bend
@@ -114,23 +113,23 @@ pub extern "C" fn rulvimba_sample_normal(
     c: f64,
     s: f64,
 ) -> Vec3Result
-    ensures { λ r. ⌜ r ≡ vec3Result (Checked.sampleNormal (surfaceWith surface (now (eta .entry)) (now (k .entry))) wo disk c s) ⌝ }
+    ensures { λ r. ⌜ r ≡ vec3Result (Counter.sampleNormal (surfaceWith surface (now (eta .entry)) (now (k .entry))) wo disk c s) ⌝ }
 {
-    records::of_vec3(checked::sample_normal(surfaces::of_record(surface), eta, k, wo, disk, c, s))
+    records::of_vec3(counter::sample_normal(surfaces::of_record(surface), eta, k, wo, disk, c, s))
 }
 
 #[no_mangle]
 pub extern "C" fn rulvimba_reflect(wo: Vec3, n: Vec3) -> DirectionResult
-    ensures { λ r. ⌜ r ≡ directionResult (Checked.reflect wo n) ⌝ }
+    ensures { λ r. ⌜ r ≡ directionResult (Counter.reflect wo n) ⌝ }
 {
-    records::of_reflect(checked::reflect(wo, n))
+    records::of_reflect(counter::reflect(wo, n))
 }
 
 #[no_mangle]
 pub extern "C" fn rulvimba_refract(eta: f64, wo: Vec3, n: Vec3) -> DirectionResult
-    ensures { λ r. ⌜ r ≡ directionResult (Checked.refract eta wo n) ⌝ }
+    ensures { λ r. ⌜ r ≡ directionResult (Counter.refract eta wo n) ⌝ }
 {
-    records::of_refract(checked::refract(eta, wo, n))
+    records::of_refract(counter::refract(eta, wo, n))
 }
 
 // ---- density
@@ -144,9 +143,9 @@ pub extern "C" fn rulvimba_density(
     reflection: bool,
     lambda: f64,
 ) -> FloatResult
-    ensures { λ r. ⌜ r ≡ floatResult (Checked.pdf (surfaceWith surface (now (eta .entry)) (now (k .entry))) wo wi reflection lambda) ⌝ }
+    ensures { λ r. ⌜ r ≡ floatResult (Counter.pdf (surfaceWith surface (now (eta .entry)) (now (k .entry))) wo wi reflection lambda) ⌝ }
 {
-    records::of_float(checked::pdf(
+    records::of_float(counter::pdf(
         surfaces::of_record(surface),
         eta,
         k,

@@ -1,6 +1,6 @@
 -- `of_reflected` meets its contract: each case is laid out as the one of the same name that may be refused.
 use Rattle.optics.specs.Bxdf.{reflected}
-use Rattle.optics.specs.Checked.{reflectAnswer}
+use Rattle.counter.specs.Counter.{reflectAnswer}
 use borrow.Author.Needs.{needs}
 use Rattle.compare_path.proofs.results.of_reflected.Statement.{statement}
 use Rattle.compare_path.proofs.results.of_reflected.Tie as tie

@@ -1,6 +1,6 @@
 -- `of_refracted` meets its contract: each case is laid out as the one of the same name that may be refused.
 use Rattle.optics.specs.Bxdf.{refracted}
-use Rattle.optics.specs.Checked.{refractAnswer}
+use Rattle.counter.specs.Counter.{refractAnswer}
 use borrow.Author.Needs.{needs}
 use Rattle.compare_path.proofs.results.of_refracted.Statement.{statement}
 use Rattle.compare_path.proofs.results.of_refracted.Tie as tie

@@ -1,7 +1,7 @@
 -- `rulvimba::records::of_color` meets its contract: each case of the answer is laid out as the definition has it.
 use lib.Ieee.{ofBits}
 use borrow.Author.Needs.{needs}
-use Rattle.optics.specs.Checked.{colorAnswer}
+use Rattle.counter.specs.Counter.{colorAnswer}
 use Rattle.rulvimba.specs.Results.{colorResult}
 use Rattle.rulvimba.proofs.records.of_color.Statement.{statement}
 use Rattle.rulvimba.proofs.records.of_color.Tie as tie

@@ -1,7 +1,7 @@
 -- `rulvimba::records::of_reflect` meets its contract: each case of the answer is laid out as the definition has it.
 use lib.Ieee.{ofBits}
 use borrow.Author.Needs.{needs}
-use Rattle.optics.specs.Checked.{reflectAnswer}
+use Rattle.counter.specs.Counter.{reflectAnswer}
 use Rattle.rulvimba.specs.Results.{directionResult}
 use Rattle.rulvimba.proofs.records.of_reflect.Statement.{statement}
 use Rattle.rulvimba.proofs.records.of_reflect.Tie as tie

@@ -1,7 +1,7 @@
 -- `rulvimba::surfaces::of_made` meets its contract: each case of the answer is laid out as the definition has it.
 use lib.Ieee.{ofBits}
 use borrow.Author.Needs.{needs}
-use Rattle.optics.specs.Checked.{surfaceAnswer}
+use Rattle.counter.specs.Counter.{surfaceAnswer}
 use Rattle.rulvimba.specs.Surfaces.{surfaceResult, surfaceRecord}
 use Rattle.rulvimba.proofs.surfaces.of_made.Statement.{statement}
 use Rattle.rulvimba.proofs.surfaces.of_made.Tie as tie

@@ -1,0 +1,133 @@
+// What document 01 asks of an argument, each with its refusal ("At the counter"): a surface, an index, wavelengths,
+// a random number, a point of the circle.
+use crate::color::Color;
+use crate::microfacet::Kind;
+use crate::microfacet::Surface;
+use numbers::dense_spectrum;
+use numbers::float;
+use numbers::refusal::Check;
+use numbers::refusal::Refusal;
+use numbers::refusal::refuse;
+use numbers::vec2::Vec2;
+ghost use mathlib.Core.Path.{_≡_};
+ghost use Rattle.numbers.specs.Refusal.{verdict};
+ghost use Rattle.optics.specs.Surface.{microsurface, isRoughness, roughnessHolds, etaHolds, isEta, allZero, kEntriesHold, kHolds};
+ghost use Rattle.optics.specs.Check.{checkSpectra, checkSurface, checkEta, checkLookups, checkRandom, isCirclePair, checkCirclePair};
+
+// The limits of a surface's fields.
+pub const ROUGHNESS_MIN: f64 = 1e-5;
+
+const ETA_MIN: f64 = 0.01;
+
+const ETA_MAX: f64 = 100.0;
+
+const K_MIN: f64 = 1e-6;
+
+const K_MAX: f64 = 100.0;
+
+fn is_roughness(a: f64) -> bool
+    ensures { λ r. ⌜ r ≡ isRoughness a ⌝ }
+{
+    float::within(ROUGHNESS_MIN, 1.0, a)
+}
+
+fn roughness_holds(a: Vec2) -> bool
+    ensures { λ r. ⌜ r ≡ roughnessHolds a ⌝ }
+{
+    is_roughness(a.x) & is_roughness(a.y)
+}
+
+fn is_eta(eta: f64) -> bool
+    ensures { λ r. ⌜ r ≡ isEta eta ⌝ }
+{
+    float::within(ETA_MIN, ETA_MAX, eta)
+}
+
+fn eta_holds(eta: &[f64]) -> bool
+    ensures { λ r. ⌜ r ≡ etaHolds (now (eta .entry)) ⌝ }
+{
+    dense_spectrum::is_table(eta) && dense_spectrum::all_within(eta, ETA_MIN, ETA_MAX)
+}
+
+fn all_zero(k: &[f64]) -> bool
+    ensures { λ r. ⌜ r ≡ allZero (now (k .entry)) ⌝ }
+{
+    dense_spectrum::all_within(k, 0.0, 0.0)
+}
+
+fn k_entries_hold(kind: Kind, k: &[f64]) -> bool
+    ensures { λ r. ⌜ r ≡ kEntriesHold kind (now (k .entry)) ⌝ }
+{
+    match kind {
+        Kind::Metal => {
+            if all_zero(k) {
+                return true;
+            }
+            dense_spectrum::all_within(k, K_MIN, K_MAX)
+        }
+        Kind::Glass => all_zero(k),
+    }
+}
+
+fn k_holds(kind: Kind, k: &[f64]) -> bool
+    ensures { λ r. ⌜ r ≡ kHolds kind (now (k .entry)) ⌝ }
+{
+    dense_spectrum::is_table(k) && k_entries_hold(kind, k)
+}
+
+// What a surface holds beside its roughness.
+pub fn check_spectra(kind: Kind, eta: &[f64], k: &[f64]) -> Check
+    ensures { λ r. ⌜ verdict r ≡ checkSpectra kind (now (eta .entry)) (now (k .entry)) ⌝ }
+{
+    refuse(Refusal::Eta, eta_holds(eta)).then(refuse(Refusal::K, k_holds(kind, k)))
+}
+
+// The fields of a surface.
+pub fn check_surface(surface: Surface, eta: &[f64], k: &[f64]) -> Check
+    ensures { λ r. ⌜ verdict r ≡ checkSurface (microsurface surface (now (eta .entry)) (now (k .entry))) ⌝ }
+{
+    let kind = surface.kind;
+    refuse(Refusal::Roughness, roughness_holds(surface.roughness)).then(check_spectra(kind, eta, k))
+}
+
+// The index of a lone bend.
+pub fn check_eta(eta: f64) -> Check
+    ensures { λ r. ⌜ verdict r ≡ checkEta eta ⌝ }
+{
+    refuse(Refusal::Eta, is_eta(eta))
+}
+
+// Wavelengths as in a lookup: 0 is accepted.
+pub fn check_lookups(lambda: Color) -> Check
+    ensures { λ r. ⌜ verdict r ≡ checkLookups lambda ⌝ }
+{
+    refuse(
+        Refusal::Wavelength,
+        dense_spectrum::is_lookup_wavelength(lambda.s0)
+            & dense_spectrum::is_lookup_wavelength(lambda.s1)
+            & dense_spectrum::is_lookup_wavelength(lambda.s2)
+            & dense_spectrum::is_lookup_wavelength(lambda.s3),
+    )
+}
+
+// A random number: from 0 to below 1.
+pub fn check_random(u: f64) -> Check
+    ensures { λ r. ⌜ verdict r ≡ checkRandom u ⌝ }
+{
+    refuse(Refusal::RandomNumber, (0.0 <= u) & (u < 1.0))
+}
+
+fn is_circle_pair(c: f64, s: f64) -> bool
+    ensures { λ r. ⌜ r ≡ isCirclePair c s ⌝ }
+{
+    float::within(-1.0, 1.0, c)
+        & float::within(-1.0, 1.0, s)
+        & float::within(0.999999999999, 1.000000000001, c * c + s * s)
+}
+
+// The cosine and the sine of an angle.
+pub fn check_circle_pair(c: f64, s: f64) -> Check
+    ensures { λ r. ⌜ verdict r ≡ checkCirclePair c s ⌝ }
+{
+    refuse(Refusal::CirclePair, is_circle_pair(c, s))
+}
