@@ -1,15 +1,13 @@
 // The commands of a job. Each reads its line, calls the model and puts one line of answer behind the
 // first `n` bytes of `out`; it answers how many bytes are used then, and what the answer is.
-use crate::figures;
 use crate::sizes;
 use crate::store;
-use crate::tally::Answered;
-use crate::tally::Outcome;
 use counter::SurfaceAnswer;
 use numbers::checked::FloatAnswer;
 use numbers::refusal::Refusal;
 use numbers::vec3::Vec3;
 use optics::bxdf::dielectric;
+use optics::color::Color;
 use optics::microfacet;
 use optics::microfacet::Ggx;
 use optics::microfacet::Kind;
@@ -21,11 +19,15 @@ use path::records::Density;
 use path::records::Path;
 use path::records::Shares;
 use path::records::Started;
-use text::faults;
+use text::answers;
+use text::answers::Answered;
+use text::answers::Outcome;
+use text::answers::Room;
 use text::line;
 use text::line::Cursor;
 use text::line::EntriesRead;
 use text::line::Fault;
+use text::line::FlagRead;
 use text::output;
 use text::words::same;
 ghost use mathlib.Core.Path.{_≡_};
@@ -34,22 +36,14 @@ ghost use Rattle.path.specs.Answer.{outcome, bounce, pathOf};
 ghost use Rattle.rays.specs.Store.{pathIn, keepPath};
 
 // ---- answers
-fn answered(used: usize) -> Answered {
-    Answered {
-        used: used,
-        outcome: Outcome::Answer,
-    }
-}
 
-// `LINE error word N: what is wrong`, after the line's number.
+// What is wrong at a word.
 fn fault_at(out: &mut [u8], n: usize, word: u64, fault: Fault) -> Answered {
-    let a = output::text(out, n, b" error word ");
-    let b = output::decimal(out, a, word);
-    let c = output::text(out, b, b": ");
-    Answered {
-        used: faults::text(out, c, fault, store::SURFACES, store::PATHS),
-        outcome: Outcome::Error,
-    }
+    let room = Room {
+        surfaces: store::SURFACES,
+        paths: store::PATHS,
+    };
+    answers::fault(out, n, word, fault, room)
 }
 
 fn fault(out: &mut [u8], n: usize, c: Cursor) -> Answered {
@@ -57,30 +51,8 @@ fn fault(out: &mut [u8], n: usize, c: Cursor) -> Answered {
     fault_at(out, n, c.words, what)
 }
 
-// A line that is too long.
-pub fn too_long(out: &mut [u8], n: usize, number: u64) -> Answered {
-    let a = output::decimal(out, n, number);
-    let b = output::text(out, a, b" error line: a line is at most ");
-    let c = output::decimal(out, b, sizes::LINE as u64);
-    Answered {
-        used: output::text(out, c, b" bytes\n"),
-        outcome: Outcome::Error,
-    }
-}
-
 fn refused(out: &mut [u8], n: usize, why: Refusal) -> Answered {
-    let a = output::text(out, n, b" refused ");
-    let b = output::decimal(out, a, why.number());
-    Answered {
-        used: output::text(out, b, b"\n"),
-        outcome: Outcome::Refusal,
-    }
-}
-
-// ` NAME INDEX`, after the line's number.
-fn head(out: &mut [u8], n: usize, name: &[u8], i: u64) -> usize {
-    let a = output::text(out, n, name);
-    output::decimal(out, a, i)
+    answers::refused(out, n, why.number())
 }
 
 // What a density is on a surface: the probability of the one direction that light is scattered into, or
@@ -137,47 +109,48 @@ fn shares_text(out: &mut [u8], n: usize, shares: Shares) -> usize {
     }
 }
 
-fn path_text(out: &mut [u8], n: usize, path: Path) -> usize {
-    let a = output::text(out, n, b" lambda");
-    let b = figures::color(out, a, path.lambda);
-    let c = output::text(out, b, b" power");
-    let d = figures::color(out, c, path.power);
-    output::text(out, d, b"\n")
+fn color(out: &mut [u8], n: usize, label: &[u8], a: Color) -> usize {
+    output::labelled_numbers(out, n, label, &[a.s0, a.s1, a.s2, a.s3])
 }
 
+// The shares and the path, with which an answer ends.
+fn left(out: &mut [u8], n: usize, shares: Shares, path: Path) -> Answered {
+    let a = shares_text(out, n, shares);
+    let b = color(out, a, b" lambda", path.lambda);
+    let c = color(out, b, b" power", path.power);
+    answers::ended(out, c)
+}
+
+fn lost(out: &mut [u8], n: usize, shares: Shares, path: Path) -> Answered {
+    let a = output::text(out, n, b" lost");
+    left(out, a, shares, path)
+}
+
+// A direction, after its label, and what belongs to it.
 fn sampled(
     out: &mut [u8],
     n: usize,
-    name: &[u8],
+    label: &[u8],
     wi: Vec3,
     density: Density,
     measure: Measure,
 ) -> usize {
-    let named = output::text(out, n, name);
-    let a = output::text(out, named, b" wi");
-    let b = figures::vec3(out, a, wi);
-    density_text(out, b, density, measure)
+    let a = output::labelled_numbers(out, n, label, &[wi.x, wi.y, wi.z]);
+    density_text(out, a, density, measure)
 }
 
-fn left(out: &mut [u8], n: usize, shares: Shares, path: Path) -> Answered {
-    let a = shares_text(out, n, shares);
-    answered(path_text(out, a, path))
-}
-
-fn bounced(out: &mut [u8], n: usize, answer: Bounced, measure: Measure) -> Answered {
+// The answer to a bounce, after the path's index.
+fn outcome_text(out: &mut [u8], n: usize, answer: Bounced, measure: Measure) -> Answered {
     match answer {
         Bounced::Refused { why, path: _ } => refused(out, n, why),
-        Bounced::Lost { shares, path } => {
-            let a = output::text(out, n, b" lost");
-            left(out, a, shares, path)
-        }
+        Bounced::Lost { shares, path } => lost(out, n, shares, path),
         Bounced::Reflected {
             wi,
             density,
             shares,
             path,
         } => {
-            let a = sampled(out, n, b" reflected", wi, density, measure);
+            let a = sampled(out, n, b" reflected wi", wi, density, measure);
             left(out, a, shares, path)
         }
         Bounced::Passed {
@@ -186,10 +159,15 @@ fn bounced(out: &mut [u8], n: usize, answer: Bounced, measure: Measure) -> Answe
             shares,
             path,
         } => {
-            let a = sampled(out, n, b" passed", wi, density, measure);
+            let a = sampled(out, n, b" passed wi", wi, density, measure);
             left(out, a, shares, path)
         }
     }
+}
+
+fn bounced(out: &mut [u8], n: usize, p: u64, answer: Bounced, measure: Measure) -> Answered {
+    let a = output::labelled(out, n, b" bounce ", p);
+    outcome_text(out, a, answer, measure)
 }
 
 // ---- commands
@@ -208,24 +186,17 @@ fn spectrum(text: &[u8], c: Cursor, name: &[u8], fault: Fault, values: &mut [f64
     read
 }
 
-// Makes a surface, and keeps it.
-fn make(
-    surfaces: &mut [f64],
-    i: u64,
-    glass: bool,
-    roughness: f64,
-    eta: &[f64],
-    k: &[f64],
-    out: &mut [u8],
-    n: usize,
-) -> Answered {
-    match counter::make_surface(kind_of(glass), roughness, eta, k) {
-        SurfaceAnswer::Refused(why) => return refused(out, n, why),
-        SurfaceAnswer::Given(surface) => {
-            store::keep_surface(surfaces, i, surface, eta, k);
-            return answered(output::text(out, n, b" ok\n"));
-        }
-    }
+fn eta(text: &[u8], c: Cursor, values: &mut [f64]) -> EntriesRead {
+    spectrum(text, c, b"eta", Fault::Eta, values)
+}
+
+fn k(text: &[u8], c: Cursor, values: &mut [f64]) -> EntriesRead {
+    spectrum(text, c, b"k", Fault::K, values)
+}
+
+// A kind: whether it is glass.
+fn glass(text: &[u8], c: Cursor) -> FlagRead {
+    line::either(text, c, b"metal", b"glass", Fault::Kind)
 }
 
 fn kind_of(glass: bool) -> Kind {
@@ -235,33 +206,55 @@ fn kind_of(glass: bool) -> Kind {
     Kind::Metal
 }
 
+// Keeps a surface that was made.
+fn made(
+    surfaces: &mut [f64],
+    i: u64,
+    answer: SurfaceAnswer,
+    eta: &[f64],
+    k: &[f64],
+    out: &mut [u8],
+    n: usize,
+) -> Answered {
+    let a = output::labelled(out, n, b" surface ", i);
+    match answer {
+        SurfaceAnswer::Refused(why) => return refused(out, a, why),
+        SurfaceAnswer::Given(surface) => {
+            store::keep_surface(surfaces, i, surface, eta, k);
+            return answers::done(out, a);
+        }
+    }
+}
+
 // surface INDEX KIND ROUGHNESS eta ENTRIES k ENTRIES
 fn surface(text: &[u8], c: Cursor, surfaces: &mut [f64], out: &mut [u8], n: usize) -> Answered {
     let index = line::index(text, c, store::SURFACES, Fault::SurfaceIndex);
-    let glass = line::either(text, index.next, b"metal", b"glass", Fault::Kind);
-    let roughness = line::number(text, glass.next);
-    let mut eta = [0.0; sizes::LINE_NUMBERS];
-    let eta_read = spectrum(text, roughness.next, b"eta", Fault::Eta, &mut eta);
-    let mut k = [0.0; sizes::LINE_NUMBERS];
-    let k_read = spectrum(text, eta_read.next, b"k", Fault::K, &mut k);
-    let end = line::end(text, k_read.next);
+    let kind = glass(text, index.next);
+    let roughness = line::number(text, kind.next);
+    let mut etas = [0.0; sizes::LINE_NUMBERS];
+    let eta = eta(text, roughness.next, &mut etas);
+    let mut ks = [0.0; sizes::LINE_NUMBERS];
+    let k = k(text, eta.next, &mut ks);
+    let end = line::end(text, k.next);
     if !end.ok {
         return fault(out, n, end);
     }
-    let i = index.value;
-    let a = head(out, n, b" surface ", i);
-    let eta_part = store::part(&eta, 0, eta_read.count);
-    let k_part = store::part(&k, 0, k_read.count);
-    make(
-        surfaces,
-        i,
-        glass.value,
-        roughness.value,
-        eta_part,
-        k_part,
-        out,
-        a,
-    )
+    let eta_part = store::part(&etas, 0, eta.count);
+    let k_part = store::part(&ks, 0, k.count);
+    let answer = counter::make_surface(kind_of(kind.value), roughness.value, eta_part, k_part);
+    made(surfaces, index.value, answer, eta_part, k_part, out, n)
+}
+
+// Keeps a path that was started.
+fn started(paths: &mut [f64], i: u64, answer: Started, out: &mut [u8], n: usize) -> Answered {
+    let a = output::labelled(out, n, b" start ", i);
+    match answer {
+        Started::Refused(why) => refused(out, a, why),
+        Started::Path(path) => {
+            store::keep_path(paths, i, path);
+            answers::done(out, a)
+        }
+    }
 }
 
 // start PATH LAMBDA*4
@@ -273,15 +266,8 @@ fn start(text: &[u8], c: Cursor, paths: &mut [f64], out: &mut [u8], n: usize) ->
     if !end.ok {
         return fault(out, n, end);
     }
-    let i = index.value;
-    let a = head(out, n, b" start ", i);
-    match Path::start(store::color(&w, 0)) {
-        Started::Refused(why) => refused(out, a, why),
-        Started::Path(path) => {
-            store::keep_path(paths, i, path);
-            answered(output::text(out, a, b" ok\n"))
-        }
-    }
+    let answer = Path::start(store::color(&w, 0));
+    started(paths, index.value, answer, out, n)
 }
 
 // Three numbers from a place on, as `store::color` has four.
@@ -346,8 +332,8 @@ fn bounce_on(
     let surface = store::surface(place);
     let eta = store::eta(place);
     let answer = bounce_held(paths, p, surface, eta, store::k(place), b);
-    let a = head(out, n, b" bounce ", p);
-    bounced(out, a, answer, measure_on(surface, eta, before.lambda.s0))
+    let measure = measure_on(surface, eta, before.lambda.s0);
+    bounced(out, n, p, answer, measure)
 }
 
 // bounce PATH SURFACE BACKFACE WO*3 NORMAL*3 U DISK C S KS*4 TF*4
@@ -372,6 +358,24 @@ fn bounce(
     bounce_on(surfaces, paths, p.value, s.value, b, out, n)
 }
 
+// The answer to a density on surface `s`.
+fn density_given(
+    out: &mut [u8],
+    n: usize,
+    s: u64,
+    answer: FloatAnswer,
+    measure: Measure,
+) -> Answered {
+    let a = output::labelled(out, n, b" density ", s);
+    match answer {
+        FloatAnswer::Refused(why) => refused(out, a, why),
+        FloatAnswer::Given(x) => {
+            let b = measured(out, a, x, measure);
+            answers::ended(out, b)
+        }
+    }
+}
+
 // The density on surface `s`.
 fn density_on(
     surfaces: &[f64],
@@ -388,17 +392,9 @@ fn density_on(
     let surface = store::surface(place);
     let eta = store::eta(place);
     let k = store::k(place);
-    let wo = vec3(w, 0);
-    let wi = vec3(w, 3);
-    let a = head(out, n, b" density ", s);
     let lambda = store::at(w, 6);
-    match counter::pdf(surface, eta, k, wo, wi, reflection, lambda) {
-        FloatAnswer::Refused(why) => refused(out, a, why),
-        FloatAnswer::Given(x) => {
-            let b = measured(out, a, x, measure_on(surface, eta, lambda));
-            answered(output::text(out, b, b"\n"))
-        }
-    }
+    let answer = counter::pdf(surface, eta, k, vec3(w, 0), vec3(w, 3), reflection, lambda);
+    density_given(out, n, s, answer, measure_on(surface, eta, lambda))
 }
 
 // density SURFACE REFLECTION WO*3 WI*3 LAMBDA

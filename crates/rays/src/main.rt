@@ -3,17 +3,17 @@
 use libc::STDERR_FILENO;
 use libc::STDIN_FILENO;
 use libc::STDOUT_FILENO;
-use tally::Answered;
-use tally::Outcome;
-use tally::Tally;
+use text::answers;
+use text::answers::Answered;
+use text::answers::Outcome;
+use text::answers::Tally;
+use text::buffer;
 use text::line;
 use text::words::part;
 
 mod commands;
-mod figures;
 mod sizes;
 mod store;
-mod tally;
 
 // How far the job is read: the bytes from `at` to `have` of the buffer are the next. Those from `at` to
 // `end` are a line if it is `ready`: the next, whose number is `number`, or the rest of the job if it
@@ -37,44 +37,6 @@ enum Fetched {
     Bytes(usize),
     End,
     Failed,
-}
-
-// Where the first line feed is from `from` to `end`, and `end` where there is none.
-fn line_feed(buf: &[u8], from: usize, end: usize) -> usize {
-    let mut at = from;
-    while at < end {
-        if line_feed_at(buf, at) {
-            return at;
-        }
-        at += 1;
-    }
-    end
-}
-
-fn line_feed_at(buf: &[u8], at: usize) -> bool {
-    if at < buf.len() {
-        return buf[at] == b'\n';
-    }
-    true
-}
-
-// The byte `by` places behind `i`, moved to `i`.
-fn move_byte(buf: &mut [u8], i: usize, by: usize) {
-    if by <= buf.len() {
-        if i < buf.len() - by {
-            let b = buf[by + i];
-            buf[i] = b;
-        }
-    }
-}
-
-// The `length` bytes from `from` on, moved to the start of the buffer.
-fn shift(buf: &mut [u8], from: usize, length: usize) {
-    let mut i: usize = 0;
-    while i < length {
-        move_byte(buf, i, from);
-        i += 1;
-    }
 }
 
 // Writes the first `used` bytes, and answers whether it could.
@@ -103,7 +65,7 @@ fn line_answer(
     }
     let text = part(buf, s.at, s.end);
     if sizes::LINE < text.len() {
-        return commands::too_long(out, used, s.number);
+        return answers::too_long(out, used, s.number, sizes::LINE as u64);
     }
     commands::answer(text, s.number, surfaces, paths, out, used)
 }
@@ -142,7 +104,8 @@ fn without_long(out: &mut [u8], s: Stream) -> Stream {
             ..s
         };
     }
-    let r = with_answer(s, commands::too_long(out, s.used, s.number));
+    let a = answers::too_long(out, s.used, s.number, sizes::LINE as u64);
+    let r = with_answer(s, a);
     Stream {
         at: 0,
         have: 0,
@@ -151,18 +114,21 @@ fn without_long(out: &mut [u8], s: Stream) -> Stream {
     }
 }
 
+// How many bytes of the buffer are the next.
+fn rest(s: Stream) -> usize {
+    if s.at < s.have {
+        return s.have - s.at;
+    }
+    0
+}
+
 // The stream with the beginning of a line at the start of the buffer.
 fn at_start(buf: &mut [u8], out: &mut [u8], s: Stream) -> Stream {
-    let at = s.at;
-    let have = s.have;
-    if have < at {
-        return without_long(out, s);
-    }
-    let length = have - at;
+    let length = rest(s);
     if s.skipping || sizes::LINE < length {
         return without_long(out, s);
     }
-    shift(buf, at, length);
+    buffer::shift(buf, s.at, length);
     Stream {
         at: 0,
         have: length,
@@ -237,7 +203,7 @@ fn more(fd: i32, buf: &mut [u8], s: Stream, out: &mut [u8]) -> Stream {
 
 // The stream with the next line ready and room for its answer, or with more of the job.
 fn next_line(fd: i32, buf: &mut [u8], s: Stream, out: &mut [u8]) -> Stream {
-    let end = line_feed(buf, s.at, s.have);
+    let end = buffer::line_feed(buf, s.at, s.have);
     if end < s.have {
         let r = with_room(out, s);
         return Stream {

@@ -2,7 +2,7 @@
 // what finds no room is left out.
 use crate::floats;
 
-fn byte(out: &mut [u8], n: usize, b: u8) -> usize {
+pub fn byte(out: &mut [u8], n: usize, b: u8) -> usize {
     if n < out.len() {
         out[n] = b;
         return n + 1;
@@ -42,6 +42,12 @@ pub fn decimal(out: &mut [u8], n: usize, value: u64) -> usize {
     used
 }
 
+// A text and a decimal behind it.
+pub fn labelled(out: &mut [u8], n: usize, label: &[u8], value: u64) -> usize {
+    let a = text(out, n, label);
+    decimal(out, a, value)
+}
+
 fn glyph(d: u64) -> u8 {
     let v = (d % 16) as u8;
     if v < 10 {
@@ -68,4 +74,20 @@ fn hex16(out: &mut [u8], n: usize, bits: u64) -> usize {
 pub fn number(out: &mut [u8], n: usize, x: f64) -> usize {
     let a = byte(out, n, b' ');
     hex16(out, a, floats::bits(x))
+}
+
+fn numbers(out: &mut [u8], n: usize, values: &[f64]) -> usize {
+    let mut used = n;
+    let mut i: usize = 0;
+    while i < values.len() {
+        used = number(out, used, values[i]);
+        i += 1;
+    }
+    used
+}
+
+// A text and numbers behind it.
+pub fn labelled_numbers(out: &mut [u8], n: usize, label: &[u8], values: &[f64]) -> usize {
+    let a = text(out, n, label);
+    numbers(out, a, values)
 }

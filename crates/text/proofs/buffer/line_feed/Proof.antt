@@ -1,8 +1,8 @@
 -- `line_feed` ends: the measure is how many bytes are left to look at.
 use Prim.Native.Nat.{_-_}
 use native.Mathlib.Omega.{arith}
-use Rattle.rays.proofs.line_feed.Statement.{statement}
-use Rattle.rays.proofs.line_feed.Tie as tie
+use Rattle.text.proofs.buffer.line_feed.Statement.{statement}
+use Rattle.text.proofs.buffer.line_feed.Tie as tie
 
 abbrev Inv-loop : tie.InvT-loop
 Inv-loop buf from end at₀ at = Unit {0}

@@ -4,8 +4,8 @@ use Prim.Native.Nat.{_-_}
 use lib.ListN.{length}
 use native.Mathlib.Omega.{arith}
 use borrow.Author.Needs.{needs}
-use Rattle.rays.proofs.shift.Statement.{statement}
-use Rattle.rays.proofs.shift.Tie as tie
+use Rattle.text.proofs.buffer.shift.Statement.{statement}
+use Rattle.text.proofs.buffer.shift.Tie as tie
 
 abbrev Inv-loop : tie.InvT-loop
 Inv-loop buf₀ from count i₀ buf i = length buf ≡ length buf₀
