@@ -1,8 +1,9 @@
 // Records of the sample: a function's number, how many words go in and come out, and the words.
 //
 //   NNN II O WORD .. WORD      in decimal, and each word 16 hexadecimal digits
-use numbers::float;
-ghost use Prim.Native.Nat.{_≤_};
+use text::digits;
+use text::floats;
+use text::words::part;
 
 // What a record begins with; how many words come out is known by the function.
 pub struct Head {
@@ -11,37 +12,14 @@ pub struct Head {
     pub ins: u64,
 }
 
-// The value of a digit, and 0 for any other byte.
-fn digit(b: u8) -> u64
-    ensures { λ r. ⌜ r ≤ 15 ⌝ }
-{
-    if b >= b'0' {
-        if b <= b'9' {
-            return (b - b'0') as u64;
-        }
-    }
-    if b >= b'a' {
-        if b <= b'f' {
-            return (b - b'a') as u64 + 10;
-        }
-    }
-    0
-}
-
-fn decimal2(a: u8, b: u8) -> u64
-    ensures { λ r. ⌜ r ≤ 165 ⌝ }
-{
-    digit(a) * 10 + digit(b)
-}
-
 // The head of the next record, if there is one.
 pub fn read_head(fd: i32) -> Head {
     let mut text = [0u8; 8];
     let n = io::read_full(fd, &mut text);
     Head {
         there: n == 8,
-        number: decimal2(text[0], text[1]) * 10 + digit(text[2]),
-        ins: decimal2(text[4], text[5]),
+        number: digits::decimal(part(&text, 0, 3)),
+        ins: digits::decimal(part(&text, 4, 6)),
     }
 }
 
@@ -51,20 +29,12 @@ pub fn line_end(fd: i32) {
     io::read_full(fd, &mut text);
 }
 
-fn hex4(a: u8, b: u8, c: u8, d: u8) -> u64
-    ensures { λ r. ⌜ r ≤ 65535 ⌝ }
-{
-    digit(a) * 4096 + digit(b) * 256 + digit(c) * 16 + digit(d)
-}
-
-// The next word.
+// The next word, and 0 where it is none.
 pub fn word(fd: i32) -> u64 {
     let mut t = [0u8; 17];
     io::read_full(fd, &mut t);
-    hex4(t[1], t[2], t[3], t[4]) * 281474976710656
-        + hex4(t[5], t[6], t[7], t[8]) * 4294967296
-        + hex4(t[9], t[10], t[11], t[12]) * 65536
-        + hex4(t[13], t[14], t[15], t[16])
+    let read = digits::hex16(part(&t, 1, 17));
+    read.bits
 }
 
 // The next word where there is one, and otherwise 0.
@@ -75,24 +45,8 @@ fn word_if(fd: i32, there: bool) -> u64 {
     0
 }
 
-// The float of a bit pattern.
-fn float_of(w: u64) -> f64 {
-    if w % 9223372036854775808 > 9218868437227405312 {
-        return float::nan();
-    }
-    f64::from_bits(w)
-}
-
-// The bit pattern of a float, and one pattern for every NaN.
-pub fn bits(x: f64) -> u64 {
-    if x != x {
-        return 0x7ff8000000000000;
-    }
-    f64::to_bits(x)
-}
-
 pub fn float_if(fd: i32, there: bool) -> f64 {
-    float_of(word_if(fd, there))
+    floats::of_bits(word_if(fd, there))
 }
 
 // The entries of a spectrum, of which `n` are there.

@@ -1,6 +1,5 @@
 -- `replay` is safe and ends: the measure is the number of turns that are left, and a turn leaves the numbers of entries as they are.
-use mathlib.Core.Path.{_≡_, refl, _∙_}
-use Prim.Native.Nat.{ℕ}
+use mathlib.Core.Path.{_≡_, refl}
 use lib.ListN.{length}
 use native.Mathlib.Omega.{arith}
 use borrow.Author.Needs.{needs}
