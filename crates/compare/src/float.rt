@@ -1,8 +1,8 @@
 // Rust's methods of `f64`.
-use numbers::float;
+use floats::float;
 ghost use mathlib.Core.Path.{_≡_};
 ghost use lib.Ieee.{nan};
-ghost use Rattle.numbers.specs.Float.{abs, clamp, isFinite, isInfinite, max, min, powi2, powi5, signBit, signum, within};
+ghost use Rattle.floats.specs.Float.{abs, clamp, isFinite, isInfinite, max, min, powi2, powi5, signBit, signum, within};
 
 #[no_mangle]
 pub extern "C" fn numbers_float_nan() -> f64

@@ -1,7 +1,7 @@
 // The square root.
-use numbers::square_root;
+use floats::square_root;
 ghost use mathlib.Core.Path.{_≡_};
-ghost use Rattle.numbers.specs.SquareRoot.{sqrt};
+ghost use Rattle.floats.specs.SquareRoot.{sqrt};
 
 #[no_mangle]
 pub extern "C" fn numbers_sqrt(x: f64) -> f64

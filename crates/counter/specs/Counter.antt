@@ -1,7 +1,7 @@
 -- What the calls at the counter answer: the refusals of document 01 in its order ("At the counter"), then the value. Definitions only.
 use mathlib.Core.{Bool.Bool, List.List}
 use lib.Ieee.{Float}
-use Rattle.numbers.specs.Float.{isFinite}
+use Rattle.floats.specs.Float.{isFinite}
 use Rattle.numbers.specs.Refusal.{number, refuse, _then_, Answer, refused, given, _▷_}
 use Rattle.numbers.specs.Checked.{checkDirection, checkWavelength, checkLookup}
 use Rattle.numbers.specs.declared.vec3.Vec3.{Vec3}

@@ -1,12 +1,12 @@
 // The calls at the counter (document 01): each checks what it is handed, in 01's order, and answers a value or the
 // refusal. A surface is its record with its spectra beside it, and its fields are checked first.
+use floats::float;
 use numbers::checked::BoolAnswer;
 use numbers::checked::FloatAnswer;
 use numbers::checked::Vec3Answer;
 use numbers::checked::check_direction;
 use numbers::checked::check_lookup;
 use numbers::checked::check_wavelength;
-use numbers::float;
 use numbers::refusal::Check;
 use numbers::refusal::Refusal;
 use numbers::refusal::refuse;

@@ -1,3 +1,2 @@
--- The laws, in rooms: those of a source module stand in its folder, beside the proofs of its functions; those of rounding in Rounding.
-pub mod Rounding
+-- The laws stand in rooms: those of a source module in its folder, beside the proofs of its functions.
 pub mod Samples

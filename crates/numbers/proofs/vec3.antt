@@ -1,3 +1,4 @@
--- The laws of directions, and of vectors that are divided by their length.
+-- The laws of vectors: bounds on their parts, directions, and vectors that are divided by their length.
+pub mod Span
 pub mod Direction
 pub mod UnitVector

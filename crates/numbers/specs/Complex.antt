@@ -2,8 +2,8 @@
 use mathlib.Core.Bool.{Bool, _&&_, cond}
 use lib.Ieee.{Float, nan, neg, eq}
 pub use Rattle.numbers.specs.declared.complex.Complex.{Complex}
-use Rattle.numbers.specs.Float.{_⊕_, _⊖_, _⊗_, _⊘_, f0, f1, f2, max, signBit}
-use Rattle.numbers.specs.SquareRoot as Root
+use Rattle.floats.specs.Float.{_⊕_, _⊖_, _⊗_, _⊘_, f0, f1, f2, max, signBit}
+use Rattle.floats.specs.SquareRoot as Root
 
 abbrev pub complex : Float → Float → Complex
 complex a b = record { Re = a; Im = b }

@@ -5,7 +5,7 @@ use lib.IntN.{pos}
 use lib.Dec.{eqb}
 use lib.ListN.{length, getD}
 use lib.Ieee.{Float, nan, fin, binary64, toUnsigned, ofInt, lt, eq}
-use Rattle.numbers.specs.Float.{_⊕_, _⊖_, _⊗_, _⊘_, f0, f1, f-1, within, isFinite}
+use Rattle.floats.specs.Float.{_⊕_, _⊖_, _⊗_, _⊘_, f0, f1, f-1, within, isFinite}
 
 -- ---- the table, which 02 (i) changes
 -- wavelengths from 360 to 830, in nanometres

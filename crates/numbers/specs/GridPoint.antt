@@ -3,7 +3,7 @@
 use Prim.Native.Nat.{_-_}
 use mathlib.Core.{Bool.cond, List.List}
 use lib.Ieee.{Float, eq}
-use Rattle.numbers.specs.Float.{f0}
+use Rattle.floats.specs.Float.{f0}
 use Rattle.numbers.specs.DenseSpectrum.{denseStep, terminated, upperPoint, upperLambda, upperWeight, entry, interpolate}
 pub use Rattle.numbers.specs.declared.dense_spectrum.GridPoint.{GridPoint}
 

@@ -1,7 +1,4 @@
 -- What the contracts of the crate cite: definitions only, each with its source.
-pub mod Float
-pub mod SquareRoot
-pub mod RootSteps
 pub mod Refusal
 pub mod Vec2
 pub mod Vec3

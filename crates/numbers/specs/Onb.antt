@@ -1,7 +1,7 @@
 -- The orthonormal basis around a normal (Duff et al. 2017, "Building an Orthonormal Basis, Revisited"), in the order of operations of lumo's src/tracer/onb.rs. Definitions only.
 use lib.Ieee.{Float, neg}
 pub use Rattle.numbers.specs.declared.onb.Onb.{Onb}
-use Rattle.numbers.specs.Float.{_⊕_, _⊗_, _⊘_, f1, f-1, signum}
+use Rattle.floats.specs.Float.{_⊕_, _⊗_, _⊘_, f1, f-1, signum}
 use Rattle.numbers.specs.Vec3.{Vec3, vec3, dot, add, floatMul}
 
 -- a = -1 / (sgn + z)

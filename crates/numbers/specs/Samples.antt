@@ -3,8 +3,8 @@ use mathlib.Core.{Path._≡_, Bool.true, Bool.false, List.List, List._∷_}
 use lib.IntN.{pos, negsuc}
 use lib.Dec.{T}
 use lib.Ieee.{Float, fin}
-use Rattle.numbers.specs.Float.{f0, f1, f2, decimal}
-use Rattle.numbers.specs.SquareRoot.{sqrt}
+use Rattle.floats.specs.Float.{f0, f1, f2, decimal}
+use Rattle.floats.specs.SquareRoot.{sqrt}
 use Rattle.numbers.specs.DenseSpectrum.{sampleOne, entry}
 use Rattle.numbers.specs.Refusal.{refused, given}
 use Rattle.numbers.specs.Checked.{tableHolds, lookup}

@@ -1,8 +1,8 @@
 -- Angles of a local direction, whose normal is Z, in the order of operations of lumo's src/math/spherical_utils.rs. Definitions only.
 use mathlib.Core.Bool.{Bool, cond}
 use lib.Ieee.{Float, lt, eq}
-use Rattle.numbers.specs.Float.{_⊖_, _⊗_, _⊘_, f0, f1, f-1, max, clamp}
-use Rattle.numbers.specs.SquareRoot.{sqrt}
+use Rattle.floats.specs.Float.{_⊖_, _⊗_, _⊘_, f0, f1, f-1, max, clamp}
+use Rattle.floats.specs.SquareRoot.{sqrt}
 use Rattle.numbers.specs.Vec3.{Vec3}
 
 unfoldable pub cosTheta : Vec3 → Float

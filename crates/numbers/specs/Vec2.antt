@@ -2,8 +2,8 @@
 use lib.Ieee.{Float, neg}
 pub use Rattle.numbers.specs.declared.vec2.Vec2.{Vec2}
 use Rattle.numbers.specs.declared.vec3.Vec3.{Vec3}
-use Rattle.numbers.specs.Float as F
-use Rattle.numbers.specs.Float.{_⊕_, _⊖_, _⊗_, _⊘_}
+use Rattle.floats.specs.Float as F
+use Rattle.floats.specs.Float.{_⊕_, _⊖_, _⊗_, _⊘_}
 
 abbrev pub vec2 : Float → Float → Vec2
 vec2 x y = record { x = x; y = y }

@@ -2,9 +2,9 @@
 use mathlib.Core.Bool.{Bool}
 use lib.Ieee.{Float, neg, lt}
 pub use Rattle.numbers.specs.declared.vec3.Vec3.{Vec3}
-use Rattle.numbers.specs.Float as F
-use Rattle.numbers.specs.Float.{_⊕_, _⊖_, _⊗_, _⊘_, f0, f1, epsilon, decimal, within}
-use Rattle.numbers.specs.SquareRoot.{sqrt}
+use Rattle.floats.specs.Float as F
+use Rattle.floats.specs.Float.{_⊕_, _⊖_, _⊗_, _⊘_, f0, f1, epsilon, decimal, within}
+use Rattle.floats.specs.SquareRoot.{sqrt}
 use Rattle.numbers.specs.Vec2.{Vec2}
 
 abbrev pub vec3 : Float → Float → Float → Vec3

@@ -1,7 +1,7 @@
 // Complex numbers: lumo's src/math/complex.rs, with document 01's stand-in for the half angle in `sqrt`.
-use crate::float;
-use crate::square_root::sqrt;
-use crate::square_root::sqrt_or_zero;
+use floats::float;
+use floats::square_root::sqrt;
+use floats::square_root::sqrt_or_zero;
 ghost use mathlib.Core.Path.{_≡_};
 ghost use Rattle.numbers.specs.Complex.{complex, fromFloat, normSqr, norm, co, cosHalf, sinHalf, sqrt, add, floatAdd, sub, floatSub, mul, mulFloat, floatMul, isZero, div, divFloat, floatDiv};
 

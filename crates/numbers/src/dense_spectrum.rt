@@ -1,6 +1,6 @@
 // Spectra at equal steps of wavelength: lumo's src/tracer/color/dense_spectrum.rs. The entries are a
 // slice that the caller lends.
-use crate::float;
+use floats::float;
 ghost use mathlib.Core.Path.{_≡_};
 ghost use Prim.Native.Nat.{_-_};
 ghost use lib.Ieee.{nan, eq};

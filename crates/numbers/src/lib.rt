@@ -1,13 +1,11 @@
-// Floats, vectors, complex numbers, spectra, bases and angles: what the light-transport model of
+// Vectors, complex numbers, spectra, bases and angles: what the light-transport model of
 // lumo computes with. Every public function equals a definition of specs/, for every input.
 pub mod checked;
 pub mod complex;
 pub mod dense_spectrum;
-pub mod float;
 pub mod onb;
 pub mod refusal;
 pub mod spherical_utils;
-pub mod square_root;
 pub mod vec2;
 pub mod vec3;
 

@@ -1,6 +1,6 @@
 // Orthonormal bases: lumo's src/tracer/onb.rs.
-use crate::float;
 use crate::vec3::Vec3;
+use floats::float;
 ghost use mathlib.Core.Path.{_≡_};
 ghost use Rattle.numbers.specs.Onb.{basis, toLocal, toWorld};
 

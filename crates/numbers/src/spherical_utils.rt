@@ -1,7 +1,7 @@
 // Angles of a local direction, whose normal is Z: lumo's src/math/spherical_utils.rs.
-use crate::float;
-use crate::square_root::sqrt;
 use crate::vec3::Vec3;
+use floats::float;
+use floats::square_root::sqrt;
 ghost use mathlib.Core.Path.{_≡_};
 ghost use Rattle.numbers.specs.SphericalUtils.{sameHemisphere, cosPhi, sinPhi, cosTheta, sinTheta, tanTheta, cos2Theta, sin2Theta, tan2Theta};
 

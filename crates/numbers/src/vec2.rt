@@ -1,7 +1,7 @@
 // Vectors of two floats: lumo's src/math/vec2.rs. An operator of the Rust is a function here: on two
 // vectors by its name, on a vector and a float as `add_float`, on a float and a vector as `float_add`.
-use crate::float;
 use crate::vec3::Vec3;
+use floats::float;
 ghost use mathlib.Core.Path.{_≡_};
 ghost use Rattle.numbers.specs.Vec2.{vec2, splat, extend, dot, abs, min, max, negate, add, sub, mul, div, addFloat, subFloat, mulFloat, divFloat, floatAdd, floatSub, floatMul, floatDiv};
 

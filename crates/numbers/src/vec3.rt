@@ -1,8 +1,8 @@
 // Vectors of three floats: lumo's src/math/vec3.rs. An operator of the Rust is a function here: on two
 // vectors by its name, on a vector and a float as `add_float`, on a float and a vector as `float_add`.
-use crate::float;
-use crate::square_root::sqrt_or_zero;
 use crate::vec2::Vec2;
+use floats::float;
+use floats::square_root::sqrt_or_zero;
 ghost use mathlib.Core.Path.{_≡_};
 ghost use Rattle.numbers.specs.Vec3.{vec3, splat, truncate, lengthSquared, length, distanceSquared, distance, scale, cross, dot, projectOnto, normalize, isNormalized, isDirection, minElement, maxElement, abs, min, max, negate, add, sub, mul, div, addFloat, subFloat, mulFloat, divFloat, floatAdd, floatSub, floatMul, floatDiv};
 

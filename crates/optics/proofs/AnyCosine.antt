@@ -10,16 +10,16 @@ use native.Mathlib.Nat.{lt-of-lt-of-le}
 use lib.Dec.{T, T-not}
 use lib.Ieee.{Float, nan, inf, fin, Format, binary64, isNan, neg, add, sub, mul, div, le, lt, eq, fits}
 use lib.Ieee.Fits.{mul-fits, div-fits, sub-fits}
-use Rattle.numbers.proofs.Rounding.Units.{U, U-pos, sign, mag, is-of, is-finite, add-is, sum-is, sub-opens, add-nan}
-use Rattle.numbers.proofs.Rounding.NonNegative.{Ext}
-use Rattle.numbers.proofs.Rounding.Error.{Fin, N, neg-parts}
+use Rattle.floats.proofs.Rounding.Units.{U, U-pos, sign, mag, is-of, is-finite, add-is, sum-is, sub-opens, add-nan}
+use Rattle.floats.proofs.Rounding.NonNegative.{Ext}
+use Rattle.floats.proofs.Rounding.Error.{Fin, N, neg-parts}
 use Rattle.numbers.proofs.dense_spectrum.Interpolation.{Index}
 use Rattle.numbers.proofs.vec3.UnitVector.{sq, sq-ext}
-use Rattle.numbers.specs.Float.{_⊕_, _⊖_, _⊗_, _⊘_, f0, f1, f2, max, abs}
-use Rattle.numbers.specs.SquareRoot.{sqrt, squareRoot}
+use Rattle.floats.specs.Float.{_⊕_, _⊖_, _⊗_, _⊘_, f0, f1, f2, max, abs}
+use Rattle.floats.specs.SquareRoot.{sqrt, squareRoot}
 use Rattle.optics.specs.Fresnel.{indexFrom, sin2I, isTotal, cosI, contrast, meanSquare, unpolarized, frFacing, frReal, fresnel}
-use Rattle.numbers.proofs.Rounding.Sizes.{Number, round-number, div-number, factor-pos, f1-upto}
-use Rattle.numbers.proofs.Rounding.Shares.{Share, f1-share}
+use Rattle.floats.proofs.Rounding.Sizes.{Number, round-number, div-number, factor-pos, f1-upto}
+use Rattle.floats.proofs.Rounding.Shares.{Share, f1-share}
 use Rattle.optics.proofs.Fresnel.{index-from, squareMost, index-square, gap, Inner, inner-of, productSize, product-ext, indexed-below, unpolarized-share, fresnel-real}
 
 abbrev B : Format

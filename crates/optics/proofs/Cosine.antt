@@ -1,7 +1,7 @@
 -- The cosine between two directions is the same from either side.
 use mathlib.Core.Path.{_≡_}
 use lib.Ieee.{binary64}
-use Rattle.numbers.proofs.Rounding.Units.{product-comm}
+use Rattle.floats.proofs.Rounding.Units.{product-comm}
 use Rattle.numbers.specs.Vec3.{dot}
 use Rattle.numbers.specs.declared.vec3.Vec3.{Vec3}
 

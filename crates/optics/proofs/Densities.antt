@@ -9,7 +9,7 @@ use mathlib.Core.Bool.{Bool, true, false, cond}
 use lib.Dec.{T}
 use lib.Ieee.{Float, nan, Format, binary64, add, sub, neg, le, lt, eq, fits}
 use Rattle.numbers.proofs.dense_spectrum.Interpolation.{Index, AllFit}
-use Rattle.numbers.specs.Float.{_⊕_, _⊖_, _⊗_, _⊘_, f0, f1, epsilon, abs, powi2, isFinite}
+use Rattle.floats.specs.Float.{_⊕_, _⊖_, _⊗_, _⊘_, f0, f1, epsilon, abs, powi2, isFinite}
 use Rattle.numbers.specs.Vec3.{dot}
 use Rattle.numbers.specs.SphericalUtils.{cosTheta, sameHemisphere}
 use Rattle.numbers.specs.DenseSpectrum.{isWavelength}
@@ -23,7 +23,7 @@ use Rattle.optics.specs.Density.{f4, atZ, mirroredPdf, bentPdf, conducto
 use Rattle.optics.specs.declared.microfacet.Kind.{Kind}
 use Rattle.optics.specs.declared.microfacet.Kind.the-variants.{Metal, Glass}
 use Rattle.optics.proofs.AnyCosine.{NanOrShare, fresnel-any}
-use Rattle.numbers.proofs.Rounding.Signs.{Plus, NotNegative, plus-not-below, abs-plus, mul-plus, square-plus, mul-not-below, div-not-below, max-not-below, not-below-le, share-not-below}
+use Rattle.floats.proofs.Rounding.Signs.{Plus, NotNegative, plus-not-below, abs-plus, mul-plus, square-plus, mul-not-below, div-not-below, max-not-below, not-below-le, share-not-below}
 use Rattle.optics.proofs.Glass.{shares-of, dot-fits, share-fits}
 use Rattle.optics.proofs.Spectra.{eta-index, glass-k-zero}
 

@@ -13,19 +13,19 @@ use native.Mathlib.Omega.{arith}
 use lib.Dec.{T, eqb, eqb→eq, lit≤, lit<, T-not}
 use lib.Ieee.{Float, nan, inf, fin, Format, binary64, up, down, neg, le, lt, eq, fits}
 use lib.Ieee.Fits.{and-l, mul-fits, div-fits, sub-fits}
-use Rattle.numbers.proofs.Rounding.{rnd, rnd-fix, below-or-from}
-use Rattle.numbers.proofs.Rounding.Units.{U, O, U-pos, U-O, Is, is-of, sign, mag, pp, nn, neg-is, sub-opens, zero-units}
-use Rattle.numbers.proofs.Rounding.NonNegative.{Ext, Fine, ext-le, finite-ext, nil-ext, unit-ext, mul-ext, div-ext, sub-fine, add-ext, fine-under, share-of, inside, U-held, rnd-ge, rnd-le, fine-pos, ext-pos, two-U, two-O, unit-fine}
-use Rattle.numbers.proofs.Rounding.Shares.{contrast as contrast-share, Share, f1-share}
-use Rattle.numbers.proofs.Rounding.Error.{Fin, P, N, M, parts, parts-le}
-use Rattle.numbers.proofs.square_root.WholeRoot.{RootErr}
-use Rattle.numbers.proofs.Rounding.Expression.{fv, _-ᶠ_, _*ᶠ_, mg, tame, closed}
+use Rattle.floats.proofs.Rounding.{rnd, rnd-fix, below-or-from}
+use Rattle.floats.proofs.Rounding.Units.{U, O, U-pos, U-O, Is, is-of, sign, mag, pp, nn, neg-is, sub-opens, zero-units}
+use Rattle.floats.proofs.Rounding.NonNegative.{Ext, Fine, ext-le, finite-ext, nil-ext, unit-ext, mul-ext, div-ext, sub-fine, add-ext, fine-under, share-of, inside, U-held, rnd-ge, rnd-le, fine-pos, ext-pos, two-U, two-O, unit-fine}
+use Rattle.floats.proofs.Rounding.Shares.{contrast as contrast-share, Share, f1-share}
+use Rattle.floats.proofs.Rounding.Error.{Fin, P, N, M, parts, parts-le}
+use Rattle.floats.proofs.square_root.WholeRoot.{RootErr}
+use Rattle.floats.proofs.Rounding.Expression.{fv, _-ᶠ_, _*ᶠ_, mg, tame, closed}
 use Rattle.numbers.proofs.dense_spectrum.Interpolation.{Around, Index, indexBits, indexMost}
-use Rattle.numbers.specs.Float.{_⊕_, _⊖_, _⊗_, _⊘_, f0, f1, f2, abs}
-use Rattle.numbers.specs.SquareRoot.{sqrt}
+use Rattle.floats.specs.Float.{_⊕_, _⊖_, _⊗_, _⊘_, f0, f1, f2, abs}
+use Rattle.floats.specs.SquareRoot.{sqrt}
 use Rattle.optics.specs.Fresnel.{indexFrom, sin2I, isTotal, cosI, contrast, meanSquare, unpolarized, frFacing, frReal, frComplex, fresnel}
-use Rattle.numbers.proofs.Rounding.Sizes.{Upto, widen, expression, f1-upto, f1-parts, f2-units, held-O, ext-N, root-max, held-power, factor-pos, divide, fine-N, pos-of}
-use Rattle.numbers.proofs.square_root.RootOrZero.{rooted}
+use Rattle.floats.proofs.Rounding.Sizes.{Upto, widen, expression, f1-upto, f1-parts, f2-units, held-O, ext-N, root-max, held-power, factor-pos, divide, fine-N, pos-of}
+use Rattle.floats.proofs.square_root.RootOrZero.{rooted}
 
 abbrev B : Format
 B = binary64

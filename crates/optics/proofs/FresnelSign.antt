@@ -2,14 +2,14 @@
 use mathlib.Core.Path.{refl}
 use mathlib.Core.Bool.{Bool, true, false, cond}
 use lib.Ieee.{Float, eq}
-use Rattle.numbers.specs.Float.{_⊕_, _⊗_, _⊘_, f0, f1, f2, clamp, abs}
+use Rattle.floats.specs.Float.{_⊕_, _⊗_, _⊘_, f0, f1, f2, clamp, abs}
 use Rattle.numbers.specs.Complex.{complex, normSqr}
 use Rattle.numbers.specs.Vec3.{dot}
 use Rattle.numbers.specs.declared.complex.Complex.{Complex}
 use Rattle.numbers.specs.declared.vec3.Vec3.{Vec3}
 use Rattle.optics.specs.Fresnel.{indexFrom, sin2I, isTotal, cosI, contrast, meanSquare, unpolarized, frFacing, frReal, complexCosI, rPar, rPer, frComplexFacing, frComplex, fresnel, fAt}
-use Rattle.numbers.proofs.Rounding.Signs.{NotNegative, Plus, plus-not-below, square-plus, add-plus, div-not-below, share-not-below}
-use Rattle.numbers.proofs.Rounding.Shares.{f1-share, f0-share}
+use Rattle.floats.proofs.Rounding.Signs.{NotNegative, Plus, plus-not-below, square-plus, add-plus, div-not-below, share-not-below}
+use Rattle.floats.proofs.Rounding.Shares.{f1-share, f0-share}
 
 half-not-below : (x : Float) → Plus x → NotNegative (x ⊘ f2)
 half-not-below x h = div-not-below x f2 (plus-not-below x h) refl

@@ -14,15 +14,15 @@ use native.Mathlib.Omega.{arith}
 use lib.Dec.{T, lit≤, lit<}
 use lib.Ieee.{Float, nan, inf, fin, Format, binary64, unlike, neg, mul, lt, eq, fits}
 use lib.Ieee.Fits.{add-fits, div-fits}
-use Rattle.numbers.proofs.Rounding.{rnd}
-use Rattle.numbers.proofs.Rounding.Units.{U, O, U-pos, Is, is-of, sign, mag, div-is, round-units, rnd-U, unique}
-use Rattle.numbers.proofs.Rounding.NonNegative.{unit-is}
-use Rattle.numbers.proofs.Rounding.Shares.{shares, Share}
-use Rattle.numbers.proofs.Rounding.Error.{Fin, M/2}
-use Rattle.numbers.proofs.Rounding.Expression.{fv, _+ᶠ_, _-ᶠ_, _*ᶠ_, mg, tame, closed}
+use Rattle.floats.proofs.Rounding.{rnd}
+use Rattle.floats.proofs.Rounding.Units.{U, O, U-pos, Is, is-of, sign, mag, div-is, round-units, rnd-U, unique}
+use Rattle.floats.proofs.Rounding.NonNegative.{unit-is}
+use Rattle.floats.proofs.Rounding.Shares.{shares, Share}
+use Rattle.floats.proofs.Rounding.Error.{Fin, M/2}
+use Rattle.floats.proofs.Rounding.Expression.{fv, _+ᶠ_, _-ᶠ_, _*ᶠ_, mg, tame, closed}
 use Rattle.numbers.proofs.dense_spectrum.Interpolation.{Index, indexBits, indexMost}
 use Rattle.numbers.proofs.vec3.UnitVector.{norm, k46, sum3, sum3-err, dot-ext, k51, twice51, room-O}
-use Rattle.numbers.specs.Float.{_⊕_, _⊖_, _⊗_, _⊘_, f0, f1, f2, abs}
+use Rattle.floats.specs.Float.{_⊕_, _⊖_, _⊗_, _⊘_, f0, f1, f2, abs}
 use Rattle.numbers.specs.Vec3.{vec3, add, sub, floatMul, divFloat, negate, dot, lengthSquared, projectOnto}
 use Rattle.numbers.specs.SphericalUtils.{sameHemisphere}
 use Rattle.numbers.specs.declared.vec2.Vec2.{Vec2}
@@ -31,7 +31,8 @@ use Rattle.optics.specs.Facets.{isDelta}
 use Rattle.optics.specs.Fresnel.{indexFrom, sin2I, isTotal, cosI, meanSquare, unpolarized, frFacing, frReal, frComplex, frComplexFacing, fresnel, fAt}
 use Rattle.optics.specs.Bxdf.{direction, none, total, mirrored, reflect, bent, acrossOnly, refractFacing, refract, Scattered, scattered, lost, totally, branch, conductorFrom, rest, reflects, dielectricFrom}
 use Rattle.optics.proofs.Cosine.{dot-comm}
-use Rattle.numbers.proofs.Rounding.Sizes.{Upto, Span, widen, widen3, expression, f2-upto, neg-upto, negate-span, held-power, divide, pos-of}
+use Rattle.floats.proofs.Rounding.Sizes.{Upto, widen, expression, f2-upto, neg-upto, held-power, divide, pos-of}
+use Rattle.numbers.proofs.vec3.Span.{Span, widen3, negate-span}
 use Rattle.optics.proofs.SampledNormal.{Unitary, unit-span, Local, local-span}
 use Rattle.optics.proofs.Fresnel.{index-inverse, sin2-upto, innerMost, inner-upto, reach, fresnel-real, fresnel-share}
 

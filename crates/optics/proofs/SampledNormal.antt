@@ -14,17 +14,17 @@ use lib.IntN.{negsuc}
 use lib.Dec.{T, lit≤}
 use lib.Ieee.{Float, nan, inf, fin, Format, binary64, isNan, neg, le, lt, fits}
 use lib.Ieee.Fits.{and-l, and-r}
-use Rattle.numbers.proofs.Rounding.{Near, below-or-from}
-use Rattle.numbers.proofs.Rounding.Units.{U, U-pos, mag, le-finite}
-use Rattle.numbers.proofs.Rounding.NonNegative.{lt-le}
-use Rattle.numbers.proofs.Rounding.Error.{Fin, P, N, le-parts, neg-parts, sum-mag, unit-fin, one-side}
-use Rattle.numbers.proofs.Rounding.SignedPoly.{R, _⊞_, _⊠_, inv, nat, va, li, _∔_, _⋆_, minus, vanishes, ab, ab-inv, ab-nat, ab-mul, ab-poly, Q, Bd, sc, bd-unsc, lift}
-use Rattle.numbers.proofs.Rounding.Expression.{rv, sc0, pow1, pow2, ulp, mul-bd, Fl, fv, _+ᶠ_, _-ᶠ_, _*ᶠ_, pd, ex, mg, er, tame, closed, sound, size-mag}
+use Rattle.floats.proofs.Rounding.{Near, below-or-from}
+use Rattle.floats.proofs.Rounding.Units.{U, U-pos, mag, le-finite}
+use Rattle.floats.proofs.Rounding.NonNegative.{lt-le}
+use Rattle.floats.proofs.Rounding.Error.{Fin, P, N, le-parts, neg-parts, sum-mag, unit-fin, one-side}
+use Rattle.floats.proofs.Rounding.SignedPoly.{R, _⊞_, _⊠_, inv, nat, va, li, _∔_, _⋆_, minus, vanishes, ab, ab-inv, ab-nat, ab-mul, ab-poly, Q, Bd, sc, bd-unsc, lift}
+use Rattle.floats.proofs.Rounding.Expression.{rv, sc0, pow1, pow2, ulp, mul-bd, Fl, fv, _+ᶠ_, _-ᶠ_, _*ᶠ_, pd, ex, mg, er, tame, closed, sound, size-mag}
 use Rattle.numbers.proofs.vec3.Direction.{Direction, flip-near, unit-rv}
 use Rattle.numbers.proofs.onb.LocalBasis.{Tame, Tame3, Large, local-tame, local-large}
 use Rattle.numbers.proofs.vec3.UnitVector.{norm, Room, Unit3, unit-of, k46, twice47}
-use Rattle.numbers.specs.Float.{_⊕_, _⊖_, _⊗_, f0, f1, f-1, max, within, decimal, epsilon}
-use Rattle.numbers.specs.SquareRoot.{sqrt}
+use Rattle.floats.specs.Float.{_⊕_, _⊖_, _⊗_, f0, f1, f-1, max, within, decimal, epsilon}
+use Rattle.floats.specs.SquareRoot.{sqrt}
 use Rattle.numbers.specs.Vec3.{vec3, X, Z, add, floatMul, negate, cross, normalize}
 use Rattle.numbers.specs.Onb.{basis, toLocal}
 use Rattle.numbers.specs.declared.vec2.Vec2.{Vec2}
@@ -32,7 +32,8 @@ use Rattle.numbers.specs.declared.vec3.Vec3.{Vec3}
 use Rattle.optics.specs.Surface.{roughnessMin, isRoughness, roughnessHolds}
 use Rattle.optics.specs.Check.{isRandom, isCirclePair}
 use Rattle.optics.specs.Sampler.{stretched, upright, viewed, tangent, lerp, diskX, diskH, diskY, diskZ, onHemisphere, combined, unstretched, sampleNormal}
-use Rattle.numbers.proofs.Rounding.Sizes.{Upto, Span, widen, Sized, limits, vars-of, bd-upto, upto-bd, expression, f0-upto, f1-upto, f1-parts, f0-parts, mag-neg, neg-upto, zero-N, not-neg, in-disk, nlt-parts, lt-zero, root-upto, root-max, half}
+use Rattle.floats.proofs.Rounding.Sizes.{Upto, widen, Sized, limits, vars-of, bd-upto, upto-bd, expression, f0-upto, f1-upto, f1-parts, f0-parts, mag-neg, neg-upto, zero-N, not-neg, in-disk, nlt-parts, lt-zero, root-upto, root-max, half}
+use Rattle.numbers.proofs.vec3.Span.{Span}
 
 abbrev B : Format
 B = binary64

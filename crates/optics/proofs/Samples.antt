@@ -4,8 +4,8 @@ use mathlib.Core.Path.{_≡_, refl, ap, _∙_}
 use mathlib.Core.Bool.{Bool, false, cond}
 use lib.IntN.{negsuc}
 use lib.Ieee.{Float, fin, binary64, add, sub, mul, div, neg, lt, le, eq, isNan}
-use Rattle.numbers.specs.Float.{f0, f1, f2, decimal, epsilon, max, abs, clamp, signBit, signum, isInfinite, powi2}
-use Rattle.numbers.specs.SquareRoot.{squareRoot}
+use Rattle.floats.specs.Float.{f0, f1, f2, decimal, epsilon, max, abs, clamp, signBit, signum, isInfinite, powi2}
+use Rattle.floats.specs.SquareRoot.{squareRoot}
 use Rattle.numbers.specs.Vec3.{X, Z, dot, length, lengthSquared, normalize, divFloat, cross, floatMul, negate}
 use Rattle.numbers.specs.Vec3 as V3
 use Rattle.numbers.specs.Complex as C

@@ -14,23 +14,24 @@ use lib.Dec.{T, eqb, eqb→eq, lit≤, lit<, T-not}
 use lib.Ieee.{Float, nan, inf, fin, Format, binary64, unlike, up, down, level, neg, add, sub, div, le, lt, eq, isNan, fits}
 use lib.Ieee.Fits.{and-i, eq→eqb, add-fits, mul-fits, div-fits, sub-fits}
 use lib.Ieee.Scale.{finite}
-use Rattle.numbers.proofs.Rounding.{rnd, below-or-from}
-use Rattle.numbers.proofs.Rounding.Units.{U, O, U-pos, U-O, Is, is-of, mag, either, units-pos, zero-units}
-use Rattle.numbers.proofs.Rounding.NonNegative.{Ext, Fine, ext-le, finite-ext, nil-ext, unit-ext, mul-ext, div-ext, sub-fine, add-ext, fine-under, U-held, rnd-ge, rnd-le, fine-pos, ext-pos, unit-fine}
-use Rattle.numbers.proofs.Rounding.Monotone.{size-of, recip-le, ratio}
-use Rattle.numbers.proofs.Rounding.Error.{Fin, P, N}
-use Rattle.numbers.proofs.square_root.WholeRoot.{RootErr}
-use Rattle.numbers.proofs.Rounding.Expression.{fv, _+ᶠ_, _-ᶠ_, _*ᶠ_, mg, tame, closed}
+use Rattle.floats.proofs.Rounding.{rnd, below-or-from}
+use Rattle.floats.proofs.Rounding.Units.{U, O, U-pos, U-O, Is, is-of, mag, either, units-pos, zero-units}
+use Rattle.floats.proofs.Rounding.NonNegative.{Ext, Fine, ext-le, finite-ext, nil-ext, unit-ext, mul-ext, div-ext, sub-fine, add-ext, fine-under, U-held, rnd-ge, rnd-le, fine-pos, ext-pos, unit-fine}
+use Rattle.floats.proofs.Rounding.Monotone.{size-of, recip-le, ratio}
+use Rattle.floats.proofs.Rounding.Error.{Fin, P, N}
+use Rattle.floats.proofs.square_root.WholeRoot.{RootErr}
+use Rattle.floats.proofs.Rounding.Expression.{fv, _+ᶠ_, _-ᶠ_, _*ᶠ_, mg, tame, closed}
 use Rattle.numbers.proofs.vec3.UnitVector.{sq, sq-ext}
-use Rattle.numbers.specs.Float.{_⊕_, _⊖_, _⊗_, _⊘_, f0, f1, f2, f-1, max, clamp, isInfinite, powi2}
-use Rattle.numbers.specs.SquareRoot.{sqrt, squareRoot}
+use Rattle.floats.specs.Float.{_⊕_, _⊖_, _⊗_, _⊘_, f0, f1, f2, f-1, max, clamp, isInfinite, powi2}
+use Rattle.floats.specs.SquareRoot.{sqrt, squareRoot}
 use Rattle.numbers.specs.SphericalUtils.{cos2Theta, sin2Theta, tan2Theta, sinTheta, cosPhi, sinPhi}
 use Rattle.numbers.specs.declared.vec2.Vec2.{Vec2}
 use Rattle.numbers.specs.declared.vec3.Vec3.{Vec3}
 use Rattle.optics.specs.Facets.{alpha2, lambdaOf, lambda, chiPass, masked, g1, g, gOverG1}
-use Rattle.numbers.proofs.Rounding.Sizes.{Upto, Span, Held, held-power, Number, div-number, widen, expression, f0-upto, f1-upto, f-1-upto, f2-units, upto-one, not-neg, nlt-parts, ext-N, NonNeg, max-zero, root-upto, fine-N, Pos, pos-of}
-use Rattle.numbers.proofs.square_root.RootOrZero.{rooted}
-use Rattle.numbers.proofs.Rounding.Shares.{Share, f0-share}
+use Rattle.floats.proofs.Rounding.Sizes.{Upto, Held, held-power, Number, div-number, widen, expression, f0-upto, f1-upto, f-1-upto, f2-units, upto-one, not-neg, nlt-parts, ext-N, NonNeg, max-zero, root-upto, fine-N, Pos, pos-of}
+use Rattle.numbers.proofs.vec3.Span.{Span}
+use Rattle.floats.proofs.square_root.RootOrZero.{rooted}
+use Rattle.floats.proofs.Rounding.Shares.{Share, f0-share}
 use Rattle.optics.proofs.SampledNormal.{Rough, rough-x, rough-y}
 use Rattle.optics.proofs.Fresnel.{reachBits, reach}
 

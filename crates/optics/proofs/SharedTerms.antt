@@ -4,7 +4,7 @@
 use mathlib.Core.Path.{_≡_, refl}
 use mathlib.Core.Bool.{Bool, true, false, cond}
 use lib.Ieee.{Float, eq}
-use Rattle.numbers.specs.Float.{_⊕_, _⊘_, f0, f1}
+use Rattle.floats.specs.Float.{_⊕_, _⊘_, f0, f1}
 use Rattle.numbers.specs.SphericalUtils.{sinTheta, cosPhi, sinPhi}
 use Rattle.numbers.specs.Vec3.{dot}
 use Rattle.numbers.specs.declared.vec2.Vec2.{Vec2}

@@ -12,16 +12,16 @@ use lib.Dec.{T, eqb, eqb→eq, lit<}
 use lib.ListN.{length}
 use lib.Ieee.{Float, nan, inf, fin, Format, binary64, up, down, le, eq, fits}
 use lib.Ieee.Fits.{and-l, and-r, and-i, eq→eqb, div-fits, sub-fits}
-use Rattle.numbers.proofs.Rounding.{rnd}
-use Rattle.numbers.proofs.Rounding.Units.{U, O, U-pos, U-O, either}
-use Rattle.numbers.proofs.Rounding.NonNegative.{Ext, Fine, mul-ext, add-ext, nil-ext, fine-of, rnd-zero, share-of}
+use Rattle.floats.proofs.Rounding.{rnd}
+use Rattle.floats.proofs.Rounding.Units.{U, O, U-pos, U-O, either}
+use Rattle.floats.proofs.Rounding.NonNegative.{Ext, Fine, mul-ext, add-ext, nil-ext, fine-of, rnd-zero, share-of}
 use Rattle.numbers.proofs.dense_spectrum.Interpolation.{Read, Index, read-index, AllFit, Place, range-of, dense-place, sample-index, wave-in-table}
-use Rattle.numbers.proofs.Rounding.Shares.{shares}
-use Rattle.numbers.specs.Float.{_⊕_, _⊖_, _⊗_, f0, f1, decimal, within}
+use Rattle.floats.proofs.Rounding.Shares.{shares}
+use Rattle.floats.specs.Float.{_⊕_, _⊖_, _⊗_, f0, f1, decimal, within}
 use Rattle.numbers.specs.DenseSpectrum.{denseSamples, isTable, denseStep, terminated, entry, interpolate, upperPoint, upperLambda, upperWeight, sampleOneAt, sampleOne, allWithin, isWavelength}
 use Rattle.optics.specs.Surface.{etaMin, etaMax, etaHolds, allZero, kEntriesHold, kHolds, etaAt, kAt}
 use Rattle.optics.specs.declared.microfacet.Kind.the-variants.{Glass}
-use Rattle.numbers.proofs.Rounding.Sizes.{f0-upto, f0-parts, fine-N}
+use Rattle.floats.proofs.Rounding.Sizes.{f0-upto, f0-parts, fine-N}
 use Rattle.numbers.proofs.dense_spectrum.Every.{entry-every}
 
 abbrev B : Format

@@ -1,7 +1,7 @@
 -- Mirror, bend and the samplers of metal and glass, in the order of operations of lumo's src/tracer/bxdf/microfacet.rs. Definitions only.
 use mathlib.Core.Bool.{Bool, true, false, _||_, cond}
 use lib.Ieee.{Float, neg, lt, eq}
-use Rattle.numbers.specs.Float.{_⊕_, _⊖_, _⊘_, f0, f1, f2}
+use Rattle.floats.specs.Float.{_⊕_, _⊖_, _⊘_, f0, f1, f2}
 use Rattle.numbers.specs.Vec3.{vec3, Z, add, sub, floatMul, divFloat, negate, dot, projectOnto}
 use Rattle.numbers.specs.SphericalUtils.{sameHemisphere}
 use Rattle.numbers.specs.declared.{vec2.Vec2.Vec2, vec3.Vec3.Vec3}

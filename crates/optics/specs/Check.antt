@@ -1,7 +1,7 @@
 -- What document 01 asks of an argument, and the number of its refusal ("At the counter"). Definitions only.
 use mathlib.Core.{Bool.Bool, Bool._&&_, List.List}
 use lib.Ieee.{Float, lt, le}
-use Rattle.numbers.specs.Float.{_⊕_, _⊗_, f0, f1, f-1, decimal, within}
+use Rattle.floats.specs.Float.{_⊕_, _⊗_, f0, f1, f-1, decimal, within}
 use Rattle.numbers.specs.DenseSpectrum.{isLookupWavelength}
 use Rattle.numbers.specs.Refusal.{Verdict, refuse, _then_}
 use Rattle.optics.specs.Surface.{Kind, Microsurface, roughnessHolds, etaHolds, kHolds, isEta}

@@ -3,7 +3,7 @@
 use mathlib.Core.Bool.{Bool, false, _||_, cond}
 use lib.IntN.{pos}
 use lib.Ieee.{Float, fin, lt, eq}
-use Rattle.numbers.specs.Float.{_⊕_, _⊖_, _⊗_, _⊘_, f0, f1, abs, epsilon, powi2}
+use Rattle.floats.specs.Float.{_⊕_, _⊖_, _⊗_, _⊘_, f0, f1, abs, epsilon, powi2}
 use Rattle.numbers.specs.Vec3.{Z, add, mulFloat, negate, dot, normalize}
 use Rattle.numbers.specs.SphericalUtils.{cosTheta, sameHemisphere}
 use Rattle.numbers.specs.declared.{vec2.Vec2.Vec2, vec3.Vec3.Vec3}

@@ -3,8 +3,8 @@
 use mathlib.Core.Bool.{Bool, false, cond}
 use lib.IntN.{negsuc}
 use lib.Ieee.{Float, fin, lt, eq}
-use Rattle.numbers.specs.Float.{_⊕_, _⊖_, _⊗_, _⊘_, f0, f1, f2, decimal, epsilon, max, abs, signum, isInfinite, powi2, powi5}
-use Rattle.numbers.specs.SquareRoot.{sqrt}
+use Rattle.floats.specs.Float.{_⊕_, _⊖_, _⊗_, _⊘_, f0, f1, f2, decimal, epsilon, max, abs, signum, isInfinite, powi2, powi5}
+use Rattle.floats.specs.SquareRoot.{sqrt}
 use Rattle.numbers.specs.SphericalUtils.{cosTheta, cos2Theta, tan2Theta, cosPhi, sinPhi}
 use Rattle.numbers.specs.Vec3.{dot}
 use Rattle.numbers.specs.declared.{vec2.Vec2.Vec2, vec3.Vec3.Vec3}

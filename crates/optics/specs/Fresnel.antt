@@ -2,8 +2,8 @@
 -- cosO is wo · wh; eta and k are the index and the absorption at one wavelength.
 use mathlib.Core.{Bool.Bool, Bool.cond, List.List}
 use lib.Ieee.{Float, lt, le, eq}
-use Rattle.numbers.specs.Float.{_⊕_, _⊖_, _⊗_, _⊘_, f0, f1, f2, max, abs, clamp}
-use Rattle.numbers.specs.SquareRoot.{sqrt}
+use Rattle.floats.specs.Float.{_⊕_, _⊖_, _⊗_, _⊘_, f0, f1, f2, max, abs, clamp}
+use Rattle.floats.specs.SquareRoot.{sqrt}
 use Rattle.numbers.specs.Vec3.{dot}
 use Rattle.numbers.specs.Complex.{complex, mul, mulFloat, floatDiv, floatSub, floatAdd, sub, add, div, normSqr}
 use Rattle.numbers.specs.Complex as C

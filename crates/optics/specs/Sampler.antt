@@ -2,8 +2,8 @@
 -- Stand-in two of document 01: (c, s) is the cosine and the sine of the disk's angle, and `disk` the disk number, the square of its radius.
 use mathlib.Core.Bool.{cond}
 use lib.Ieee.{Float, lt}
-use Rattle.numbers.specs.Float.{_⊕_, _⊖_, _⊗_, _⊘_, f0, f1, f2, epsilon, max}
-use Rattle.numbers.specs.SquareRoot.{sqrt}
+use Rattle.floats.specs.Float.{_⊕_, _⊖_, _⊗_, _⊘_, f0, f1, f2, epsilon, max}
+use Rattle.floats.specs.SquareRoot.{sqrt}
 use Rattle.numbers.specs.Vec3.{vec3, X, Z, add, floatMul, negate, cross, normalize}
 use Rattle.numbers.specs.declared.{vec2.Vec2.Vec2, vec3.Vec3.Vec3}
 

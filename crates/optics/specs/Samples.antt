@@ -2,8 +2,8 @@
 use mathlib.Core.{Path._≡_, Bool.false}
 use lib.IntN.{negsuc}
 use lib.Ieee.{Float, fin}
-use Rattle.numbers.specs.Float.{f0, f1, f2, decimal}
-use Rattle.numbers.specs.SquareRoot.{sqrt}
+use Rattle.floats.specs.Float.{f0, f1, f2, decimal}
+use Rattle.floats.specs.SquareRoot.{sqrt}
 use Rattle.numbers.specs.Vec2.{vec2}
 use Rattle.numbers.specs.Vec3.{vec3, X, Z, dot}
 use Rattle.numbers.specs.declared.{vec2.Vec2.Vec2, vec3.Vec3.Vec3}

@@ -2,7 +2,7 @@
 -- From the term itself each is its formula of Facets.antt or Density.antt, by the laws of proofs/SharedTerms.antt.
 use mathlib.Core.Bool.{Bool, cond}
 use lib.Ieee.{Float, lt, eq}
-use Rattle.numbers.specs.Float.{_⊕_, _⊗_, _⊘_, f0, f1, f-1, epsilon, max, abs, clamp, signum}
+use Rattle.floats.specs.Float.{_⊕_, _⊗_, _⊘_, f0, f1, f-1, epsilon, max, abs, clamp, signum}
 use Rattle.numbers.specs.SphericalUtils.{cosTheta}
 use Rattle.numbers.specs.Vec3.{dot}
 use Rattle.numbers.specs.declared.{vec2.Vec2.Vec2, vec3.Vec3.Vec3}

@@ -4,7 +4,7 @@ use mathlib.Core.{Bool.Bool, Bool.false, Bool._&&_, Bool._||_, Bool.cond, List.L
 use lib.Ieee.{Float, fin}
 use lib.IntN.{pos}
 use lib.Dec.{eqb, leb}
-use Rattle.numbers.specs.Float.{f0, f1, decimal, max, within}
+use Rattle.floats.specs.Float.{f0, f1, decimal, max, within}
 use Rattle.numbers.specs.DenseSpectrum.{isTable, sampleOne, isConstant, allWithin}
 use Rattle.numbers.specs.Vec2.{splat}
 use Rattle.numbers.specs.declared.vec2.Vec2.{Vec2}

@@ -1,9 +1,9 @@
 // Mirror and bend, and lumo's `BxDF` for metal and glass: src/tracer/bxdf/microfacet.rs, bxdf.rs.
 use crate::microfacet::Ggx;
 use crate::microfacet::Kind;
+use floats::square_root::sqrt_or_zero;
 use numbers::EPSILON;
 use numbers::spherical_utils;
-use numbers::square_root::sqrt_or_zero;
 use numbers::vec3::Vec3;
 
 pub mod conductor;

@@ -3,8 +3,8 @@
 use crate::color::Color;
 use crate::microfacet::Kind;
 use crate::microfacet::Surface;
+use floats::float;
 use numbers::dense_spectrum;
-use numbers::float;
 use numbers::refusal::Check;
 use numbers::refusal::Refusal;
 use numbers::refusal::refuse;

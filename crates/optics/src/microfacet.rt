@@ -1,18 +1,18 @@
 // Facets of metal and glass: the GGX half of lumo's src/tracer/microfacet.rs.
 // These take any floats and refuse none; the forms that check stand in `checked`.
 use crate::color::Color;
+use floats::float;
+use floats::square_root::sqrt;
+use floats::square_root::sqrt_or_zero;
 use numbers::EPSILON;
 use numbers::complex::Complex;
 use numbers::dense_spectrum::DenseSpectrum;
 use numbers::dense_spectrum::GridPoint;
-use numbers::float;
-use numbers::square_root::sqrt;
-use numbers::square_root::sqrt_or_zero;
 use numbers::vec2::Vec2;
 use numbers::vec3::Vec3;
 ghost use mathlib.Core.Path.{_≡_};
 ghost use mathlib.Core.Bool.{cond};
-ghost use Rattle.numbers.specs.Float.{f0};
+ghost use Rattle.floats.specs.Float.{f0};
 ghost use Rattle.optics.specs.Facets.{isDelta, lambda, chiPass, g1, g, gOverG1, d, sampleNormalPdf, fSchlick, disneyDiffuse};
 ghost use Rattle.optics.specs.SharedTerms.{azimuth, chiPassAt, g1At, gOverG1At, sampleNormalPdfAt};
 ghost use Rattle.optics.specs.Fresnel.{frFacing, frReal, complexCosI, rPar, rPer, frComplexFacing, frComplex, fresnel, fAt, f};

@@ -9,11 +9,11 @@ use mathlib.Core.List.{List}
 use lib.Dec.{T}
 use lib.Ieee.{Float, fits, le}
 use lib.Ieee.Fits.{and-l, and-r}
-use Rattle.numbers.specs.Float.{f0, f1, within, isFinite}
+use Rattle.floats.specs.Float.{f0, f1, within, isFinite}
 use Rattle.numbers.specs.Onb.{basis, toWorld}
 use Rattle.numbers.specs.declared.vec3.Vec3.{Vec3}
-use Rattle.numbers.proofs.Rounding.Units.{U-O}
-use Rattle.numbers.proofs.Rounding.NonNegative.{Ext, share-of, ext-le}
+use Rattle.floats.proofs.Rounding.Units.{U-O}
+use Rattle.floats.proofs.Rounding.NonNegative.{Ext, share-of, ext-le}
 use Rattle.optics.specs.Surface.{Microsurface, constantEta}
 use Rattle.optics.specs.Bxdf.{Scattered, scattered, totally, rest}
 use Rattle.optics.specs.Bxdf as Bxdf

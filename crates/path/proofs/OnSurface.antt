@@ -4,7 +4,7 @@ use mathlib.Core.Path.{_≡_}
 use mathlib.Core.Bool.{Bool, true, false, cond}
 use mathlib.Core.List.{List}
 use lib.Ieee.{Float}
-use Rattle.numbers.specs.Float.{f0}
+use Rattle.floats.specs.Float.{f0}
 use Rattle.numbers.specs.Onb.{basis, toLocal, toWorld}
 use Rattle.numbers.specs.declared.onb.Onb.{Onb}
 use Rattle.numbers.specs.declared.vec2.Vec2.{Vec2}

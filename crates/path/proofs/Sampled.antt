@@ -9,7 +9,7 @@ use lib.Dec.{T, lit≤}
 use lib.Ieee.{Float, binary64, fits, lt, le, eq}
 use lib.Ieee.Fits.{and-r, cond-fits, div-fits}
 use lib.Ieee.Scale.{finite}
-use Rattle.numbers.specs.Float.{_⊘_, f0, f1}
+use Rattle.floats.specs.Float.{_⊘_, f0, f1}
 use Rattle.numbers.specs.Vec3.{Z}
 use Rattle.numbers.specs.DenseSpectrum.{isWavelength, isLookupWavelength}
 use Rattle.numbers.specs.declared.vec3.Vec3.{Vec3}
@@ -23,8 +23,8 @@ use Rattle.optics.specs.Check.{isRandom}
 use Rattle.optics.specs.declared.color.Color.{Color}
 use Rattle.optics.specs.declared.microfacet.Kind.{Kind}
 use Rattle.optics.specs.declared.microfacet.Kind.the-variants.{Metal, Glass}
-use Rattle.numbers.proofs.Rounding.Sizes.{Span, widen3}
-use Rattle.numbers.proofs.Rounding.Units.{each}
+use Rattle.numbers.proofs.vec3.Span.{Span, widen3}
+use Rattle.floats.proofs.Rounding.Units.{each}
 use Rattle.optics.proofs.SampledNormal.{Rough, Disk, Local, local-of, local-span, Unitary, sampled-normal, z-unitary}
 use Rattle.optics.proofs.Fresnel.{reach}
 use Rattle.optics.proofs.Glass.{Shares, glass-shares, glass-never-total, glass-direction, metal-outcome, Outcome}

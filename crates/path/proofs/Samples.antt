@@ -8,8 +8,8 @@ use mathlib.Core.List.{List}
 use lib.IntN.{pos}
 use lib.ListN.{replicate}
 use lib.Ieee.{Float, fin, binary64, add, sub, mul, div, neg, lt, le, eq, isNan, ofInt, toUnsigned}
-use Rattle.numbers.specs.Float.{f0, f1, f2, f-1, decimal, epsilon, within, max, signum, isFinite}
-use Rattle.numbers.specs.SquareRoot.{squareRoot}
+use Rattle.floats.specs.Float.{f0, f1, f2, f-1, decimal, epsilon, within, max, signum, isFinite}
+use Rattle.floats.specs.SquareRoot.{squareRoot}
 use Rattle.numbers.specs.Vec2.{splat}
 use Rattle.numbers.specs.Vec3.{vec3, Z, dot, floatMul, divFloat, negate, lengthSquared, length, normalize, projectOnto, isDirection}
 use Rattle.numbers.specs.Vec3 as V3

@@ -6,13 +6,13 @@ use lib.Dec.{T}
 use lib.Ieee.{Float, binary64, fits, isNan, le, eq}
 use lib.Ieee.Fits.{mul-fits}
 use lib.Ieee.Scale.{finite}
-use Rattle.numbers.specs.Float.{_⊗_, f0, f1}
+use Rattle.floats.specs.Float.{_⊗_, f0, f1}
 use Rattle.numbers.specs.DenseSpectrum.{terminated}
 use Rattle.numbers.specs.declared.vec3.Vec3.{Vec3}
-use Rattle.numbers.proofs.Rounding.Units.{is-finite}
-use Rattle.numbers.proofs.Rounding.NonNegative.{share-of}
-use Rattle.numbers.proofs.Rounding.Shares as Shares
-use Rattle.numbers.proofs.Rounding.Monotone.{le-trans-fits}
+use Rattle.floats.proofs.Rounding.Units.{is-finite}
+use Rattle.floats.proofs.Rounding.NonNegative.{share-of}
+use Rattle.floats.proofs.Rounding.Shares as Shares
+use Rattle.floats.proofs.Rounding.Monotone.{le-trans-fits}
 use Rattle.optics.specs.Surface.{Microsurface, etaAt, kAt}
 use Rattle.optics.specs.Bxdf.{Scattered, scattered, lost, totally}
 use Rattle.optics.specs.declared.color.Color.{Color}
@@ -20,7 +20,7 @@ use Rattle.optics.specs.declared.microfacet.Kind.{Kind}
 use Rattle.optics.specs.declared.microfacet.Kind.the-variants.{Metal, Glass}
 use Rattle.optics.proofs.Glass.{share-fits}
 use Rattle.optics.proofs.FresnelSign.{fresnel-not-below}
-use Rattle.numbers.proofs.Rounding.Signs.{NotNegative, at-most-one}
+use Rattle.floats.proofs.Rounding.Signs.{NotNegative, at-most-one}
 use Rattle.path.specs.declared.records.Bounce.{Bounce}
 use Rattle.path.specs.Bounce.{localWo, facet, fresnelAt, shadowingOn, metalShare, metalFilter, filter, weight, weightFrom}
 

@@ -2,7 +2,7 @@
 use Prim.Native.Nat.{ℕ}
 use mathlib.Core.Bool.{Bool, true, false, cond}
 use lib.Ieee.{Float}
-use Rattle.numbers.specs.Float.{isFinite}
+use Rattle.floats.specs.Float.{isFinite}
 use Rattle.numbers.specs.Onb.{basis, toWorld}
 use Rattle.numbers.specs.Refusal.{number, Answer, refused, given, Verdict, accepted, rejected}
 use Rattle.numbers.specs.declared.vec3.Vec3.{Vec3}

@@ -2,7 +2,7 @@
 -- `lambda` is the path's wavelengths that are left: on glass whose eta varies, two to four have ended.
 use mathlib.Core.{Bool.Bool, Bool.cond, List.List}
 use lib.Ieee.{Float, isNan, le, eq}
-use Rattle.numbers.specs.Float.{_⊗_, f0, f1}
+use Rattle.floats.specs.Float.{_⊗_, f0, f1}
 use Rattle.numbers.specs.Onb.{basis, toLocal}
 use Rattle.numbers.specs.DenseSpectrum.{terminated}
 use Rattle.numbers.specs.declared.{vec2.Vec2.Vec2, vec3.Vec3.Vec3}

@@ -2,7 +2,7 @@
 use mathlib.Core.{Path._≡_, List.List, List.[], List._∷_}
 use lib.Dec.{T}
 use lib.Ieee.{Float, binary64, fits, le}
-use Rattle.numbers.specs.Float.{_⊕_, _⊖_, f0, f1, isFinite}
+use Rattle.floats.specs.Float.{_⊕_, _⊖_, f0, f1, isFinite}
 use Rattle.numbers.specs.declared.vec3.Vec3.{Vec3}
 use Rattle.optics.specs.Surface.{Microsurface}
 use Rattle.optics.specs.Bxdf.{totally}

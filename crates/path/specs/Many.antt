@@ -5,7 +5,7 @@ use lib.Dec.{leb}
 use lib.Ieee.{Float, nan, binary64, ne, ofInt}
 use lib.IntN.{pos}
 use lib.ListN.{take, drop, getD}
-use Rattle.numbers.specs.Float.{f0}
+use Rattle.floats.specs.Float.{f0}
 use Rattle.numbers.specs.Vec3.{vec3}
 use Rattle.optics.specs.Color.{color}
 use Rattle.optics.specs.Surface.{Microsurface}

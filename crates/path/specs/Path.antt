@@ -1,7 +1,7 @@
 -- A path: four wavelengths, each with the power that is left (document 01, "Records"; lumo's `ColorWavelength`). Definitions only.
 use mathlib.Core.Bool.{Bool, _&&_}
 use lib.Ieee.{Float}
-use Rattle.numbers.specs.Float.{_⊗_, f0, f1, within}
+use Rattle.floats.specs.Float.{_⊗_, f0, f1, within}
 use Rattle.numbers.specs.DenseSpectrum.{terminated, isWavelength, isLookupWavelength}
 use Rattle.numbers.specs.Refusal.{Answer, given, refuse, _▷_}
 use Rattle.optics.specs.Color.{color, all4}

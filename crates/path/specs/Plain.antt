@@ -1,5 +1,5 @@
 -- An answer laid out as a plain record: document 01's number, which is 0 where the bounce is accepted, and the values, which are zeros where there are none. Definitions only.
-use Rattle.numbers.specs.Float.{f0}
+use Rattle.floats.specs.Float.{f0}
 use Rattle.numbers.specs.Vec3.{vec3}
 use Rattle.path.specs.Answer.{Density, Shares, Outcome, refusal, lost, reflected, passed}
 pub use Rattle.path.specs.declared.plain.{DensityRecord.DensityRecord, SharesRecord.SharesRecord, BounceResult.BounceResult}

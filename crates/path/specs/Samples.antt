@@ -4,7 +4,7 @@ use mathlib.Core.{Path._≡_, Bool.false, List.List}
 use lib.IntN.{pos}
 use lib.ListN.{replicate}
 use lib.Ieee.{Float, fin}
-use Rattle.numbers.specs.Float.{f0, f1, f2, f-1, decimal}
+use Rattle.floats.specs.Float.{f0, f1, f2, f-1, decimal}
 use Rattle.numbers.specs.Vec3.{vec3, Z}
 use Rattle.numbers.specs.DenseSpectrum.{denseSamples}
 use Rattle.numbers.specs.Samples as Numbers

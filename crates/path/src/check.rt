@@ -3,8 +3,8 @@
 use crate::records::Bounce;
 use crate::records::Path;
 use crate::wavelength;
+use floats::float;
 use numbers::checked::check_direction;
-use numbers::float;
 use numbers::refusal::Check;
 use numbers::refusal::Refusal;
 use numbers::refusal::refuse;
@@ -12,7 +12,7 @@ use optics::check::check_circle_pair;
 use optics::check::check_random;
 use optics::color::Color;
 ghost use mathlib.Core.Path.{_≡_};
-ghost use Rattle.numbers.specs.Float.{within, f0, f1};
+ghost use Rattle.floats.specs.Float.{within, f0, f1};
 ghost use Rattle.numbers.specs.Refusal.{verdict};
 ghost use Rattle.optics.specs.Color.{all4};
 ghost use Rattle.path.specs.Bounce.{checkRest};

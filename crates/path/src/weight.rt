@@ -5,7 +5,7 @@ use optics::color::Color;
 use optics::microfacet::Ggx;
 ghost use mathlib.Core.Path.{_≡_};
 ghost use mathlib.Core.Bool.{cond};
-ghost use Rattle.numbers.specs.Float.{f0};
+ghost use Rattle.floats.specs.Float.{f0};
 ghost use Rattle.optics.specs.Facets.{lambda};
 ghost use Rattle.path.specs.Path.{each2};
 ghost use Rattle.path.specs.Bounce.{shadowing, metalShare, metalFilter, weight, weightsOf};

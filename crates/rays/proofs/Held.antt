@@ -8,7 +8,7 @@ use native.Mathlib.Omega.{arith}
 use lib.Ieee.{Float, nan}
 use lib.ListN.{length, getD}
 use lib.Seq.{sets, length-sets}
-use Rattle.numbers.proofs.Rounding.{below-or-from}
+use Rattle.floats.proofs.Rounding.{below-or-from}
 use Rattle.path.specs.declared.records.Path.{Path}
 use Rattle.rays.specs.Store.{at, colorAt, pathCount, pathSize, pathPlace, pathIn, pathNumbers, keepPath}
 use Rattle.rays.proofs.Lists.{sets-before, sets-after, sets-in}

@@ -5,7 +5,7 @@ use mathlib.Core.List.{List, [], _∷_}
 use lib.Ieee.{Float, nan, lt}
 use lib.ListN.{getD}
 use lib.Seq.{sets}
-use Rattle.numbers.specs.Float.{f0}
+use Rattle.floats.specs.Float.{f0}
 use Rattle.optics.specs.Color.{color}
 use Rattle.optics.specs.declared.color.Color.{Color}
 use Rattle.path.specs.Path.{path, leading}

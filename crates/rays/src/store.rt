@@ -6,7 +6,7 @@
 // Zeros are a surface that was not made, whose roughness is never 0, and a path that was not started,
 // whose leading wavelength never is.
 use crate::sizes;
-use numbers::float;
+use floats::float;
 use numbers::vec2::Vec2;
 use optics::color::Color;
 use optics::microfacet::Kind;

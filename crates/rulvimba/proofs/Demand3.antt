@@ -9,7 +9,7 @@ use lib.Dec.{leb}
 use lib.Ieee.{Float, le}
 use lib.ListN.{length}
 use borrow.Author.Tests.{leb-true, leb-false}
-use Rattle.numbers.specs.Float.{f0, isFinite}
+use Rattle.floats.specs.Float.{f0, isFinite}
 use Rattle.numbers.specs.Refusal.{number, Verdict, accepted, rejected, _then_, refuse, _▷_}
 use Rattle.numbers.specs.declared.refusal.Refusal.{Refusal}
 use Rattle.numbers.specs.declared.refusal.Refusal.the-variants as W

@@ -4,7 +4,7 @@ use mathlib.Core.Path.{_≡_}
 use mathlib.Core.List.{List}
 use lib.Ieee.{Float, le}
 use borrow.Author.Tests.{lt-leb}
-use Rattle.numbers.specs.Float.{within, decimal}
+use Rattle.floats.specs.Float.{within, decimal}
 use Rattle.numbers.specs.Refusal.{refused, rejected, refuse, _then_, _▷_}
 use Rattle.optics.specs.Surface.{kindOf, roughnessMin, isRoughness, roughnessHolds, isRoughnessGiven}
 use Rattle.optics.specs.Check.{checkSurface}

@@ -1,7 +1,7 @@
 -- Answers laid out for C: document 01's number, which is 0 where the call is accepted, and the values, which are zeros where there are none. Definitions only.
 use Prim.Native.Nat.{ℕ}
 use lib.Ieee.{Float}
-use Rattle.numbers.specs.Float.{f0}
+use Rattle.floats.specs.Float.{f0}
 use Rattle.numbers.specs.Vec3.{vec3}
 use Rattle.numbers.specs.Refusal.{Answer, refused, given, Verdict, accepted, rejected}
 use Rattle.numbers.specs.declared.vec3.Vec3.{Vec3}

@@ -2,7 +2,7 @@
 use Prim.Native.Nat.{ℕ}
 use mathlib.Core.{Bool.cond, List.List}
 use lib.Ieee.{Float, nan}
-use Rattle.numbers.specs.Float.{f0}
+use Rattle.floats.specs.Float.{f0}
 use Rattle.numbers.specs.Vec2.{vec2}
 use Rattle.numbers.specs.Refusal.{Answer, refused, given}
 use Rattle.optics.specs.Surface.{Microsurface, microsurface, kindCode, isKindCode, kindOf}

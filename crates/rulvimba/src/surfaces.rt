@@ -2,7 +2,7 @@
 // roughness that no check accepts.
 use crate::records;
 use counter::SurfaceAnswer;
-use numbers::float;
+use floats::float;
 use numbers::vec2::Vec2;
 use optics::check;
 use optics::microfacet::Kind;

@@ -1,7 +1,7 @@
 -- `counter::make_surface` meets its contract: refused as the checks say, or the value.
 use borrow.Author.Needs.{needs}
 use lib.Ieee.{ofBits}
-use Rattle.numbers.specs.Float.{decimal}
+use Rattle.floats.specs.Float.{decimal}
 use Rattle.numbers.specs.Refusal.{number, verdict, _▷_}
 use Rattle.optics.specs.Surface.{surface, roughnessMin, isRoughnessGiven}
 use Rattle.counter.specs.Counter.{makeSurface, surfaceAnswer}

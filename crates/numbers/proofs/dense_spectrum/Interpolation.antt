@@ -18,15 +18,15 @@ use lib.Ieee.Digits.{size-le, back}
 use lib.Ieee.Fits.{and-i, and-l, and-r, eq→eqb, down-pos, add-fits, div-fits}
 use lib.Ieee.Order.{drop, kept}
 use lib.Ieee.Scale.{finite}
-use Rattle.numbers.proofs.Rounding.{rnd, Near, rnd-fix, rnd-mono, rnd-same, rnd-err, rnd-whole, below-or-from, size-above}
-use Rattle.numbers.proofs.Rounding.Units.{U, O, U-is, U-pos, U-O, Is, is-of, mag, nn, either, round-units, unique, le-finite, over, over'}
-use Rattle.numbers.proofs.Rounding.NonNegative.{Fine, Ext, unit-ext, U-held, share-of, fine-under, inside, mul-ext, div-ext, sub-fine, add-ext, fine-pos, unit-fine}
-use Rattle.numbers.proofs.Rounding.Shares.{rnd-mono1}
-use Rattle.numbers.proofs.Rounding.Error.{Fin, P, N, M, M/2, le-parts, mul-rnd, unscale, sum-mag, one-side}
+use Rattle.floats.proofs.Rounding.{rnd, Near, rnd-fix, rnd-mono, rnd-same, rnd-err, rnd-whole, below-or-from, size-above}
+use Rattle.floats.proofs.Rounding.Units.{U, O, U-is, U-pos, U-O, Is, is-of, mag, nn, either, round-units, unique, le-finite, over, over'}
+use Rattle.floats.proofs.Rounding.NonNegative.{Fine, Ext, unit-ext, U-held, share-of, fine-under, inside, mul-ext, div-ext, sub-fine, add-ext, fine-pos, unit-fine}
+use Rattle.floats.proofs.Rounding.Shares.{rnd-mono1}
+use Rattle.floats.proofs.Rounding.Error.{Fin, P, N, M, M/2, le-parts, mul-rnd, unscale, sum-mag, one-side}
 use Rattle.numbers.proofs.vec3.UnitVector.{sum-err}
-use Rattle.numbers.proofs.Rounding.Sizes.{fine-N, pos-of, zero-N}
+use Rattle.floats.proofs.Rounding.Sizes.{fine-N, pos-of, zero-N}
 use Rattle.numbers.proofs.dense_spectrum.Every.{entry-every}
-use Rattle.numbers.specs.Float.{_⊕_, _⊖_, _⊗_, _⊘_, f0, f1, f-1, decimal, within}
+use Rattle.floats.specs.Float.{_⊕_, _⊖_, _⊗_, _⊘_, f0, f1, f-1, decimal, within}
 use Rattle.numbers.specs.DenseSpectrum.{lambdaMin, lambdaMax, denseSamples, denseStep, terminated, ceiling, entry, interpolate, upperPoint, upperLambda, upperWeight, sampleOneAt, sampleOne, allWithin, inTable, isWavelength}
 
 abbrev B : Format

@@ -7,7 +7,7 @@ use mathlib.Core.Bool.{true, false}
 use lib.Dec.{T, ltb→lt, lit<}
 use lib.IntN.{ℤ, pos, negsuc}
 use lib.Ieee.{Float, inf, fin, binary64, toUnsigned, lt, fits}
-use Rattle.numbers.proofs.Rounding.Units.{fits-parts}
+use Rattle.floats.proofs.Rounding.Units.{fits-parts}
 
 -- a significand has 53 digits
 digits : (m : ℕ) (e : ℤ) → T (fits binary64 (fin false m e)) → m < 2 ^ 53

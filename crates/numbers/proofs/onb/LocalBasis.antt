@@ -12,13 +12,13 @@ use lib.Dec.{T, lit≤, lit<}
 use lib.ListN.{getD}
 use lib.Pow.{pow-pos}
 use lib.Ieee.{Float}
-use Rattle.numbers.proofs.Rounding.{below-or-from}
-use Rattle.numbers.proofs.Rounding.Units.{U, U-pos, sign}
-use Rattle.numbers.proofs.Rounding.Error.{Fin, unit-fin}
-use Rattle.numbers.proofs.Rounding.SignedPoly.{R, _⊞_, _⊠_, inv, nat, Ex, va, li, _∔_, _⋆_, minus, at, eval, vanishes, ab, ab-nat, ab-mul, ab-poly, Q, Bd, bd-more, bd-mul, bd-poly, sc, bd-unsc, lift, lift-ok, Bds, deg, homog, bound, bounded, from-bd}
-use Rattle.numbers.proofs.Rounding.Expression.{rv, pow1, pow2, Fl, fv, _+ᶠ_, _*ᶠ_, fneg, flo, pd, ex, mg, er, tame, closed, Vars, Sound, sound}
+use Rattle.floats.proofs.Rounding.{below-or-from}
+use Rattle.floats.proofs.Rounding.Units.{U, U-pos, sign}
+use Rattle.floats.proofs.Rounding.Error.{Fin, unit-fin}
+use Rattle.floats.proofs.Rounding.SignedPoly.{R, _⊞_, _⊠_, inv, nat, Ex, va, li, _∔_, _⋆_, minus, at, eval, vanishes, ab, ab-nat, ab-mul, ab-poly, Q, Bd, bd-more, bd-mul, bd-poly, sc, bd-unsc, lift, lift-ok, Bds, deg, homog, bound, bounded, from-bd}
+use Rattle.floats.proofs.Rounding.Expression.{rv, pow1, pow2, Fl, fv, _+ᶠ_, _*ᶠ_, fneg, flo, pd, ex, mg, er, tame, closed, Vars, Sound, sound}
 use Rattle.numbers.specs.declared.vec3.Vec3.{Vec3}
-use Rattle.numbers.specs.Float.{f1, signum}
+use Rattle.floats.specs.Float.{f1, signum}
 use Rattle.numbers.specs.Vec3.{vec3, dot}
 use Rattle.numbers.specs.Onb.{slope, skew, basis, toLocal}
 use Rattle.numbers.proofs.vec3.Direction.{Direction, Parts, parts-of, norm2, unit-norm, sgR, sgE, Signed, signed-of, Towards, apart, bd-sg, unit-rv, ca, c1, eE, e18, Slope, slope-of, flip-near, divide}

@@ -12,14 +12,14 @@ use lib.IntN.{pos, negsuc}
 use lib.Dec.{T, lit≤, lit<}
 use lib.Ieee.{Float, nan, inf, fin, Format, binary64, add, mul, le, fits}
 use lib.Ieee.Fits.{and-l, and-r}
-use Rattle.numbers.proofs.Rounding.{rnd, Near, rnd-fix, rnd-mono, rnd-idem, below-or-from}
-use Rattle.numbers.proofs.Rounding.Units.{U, O, U-pos, is-of, sign, mag, add-nan}
-use Rattle.numbers.proofs.Rounding.NonNegative.{Ext, le-ext, add-ext, rnd-O, two-U, two-O, square-ext, rnd-ge}
-use Rattle.numbers.proofs.Rounding.Error.{Fin, P, N, M, M/2, le-parts, div-err, unit-fin, m1-is}
-use Rattle.numbers.proofs.Rounding.SignedPoly.{R, _⊞_, _⊠_, inv, nat, Ex, va, _∔_, _⋆_, minus, vanishes, ab, ab-add, ab-inv, ab-nat, ab-mul, ab-poly, Q, Bd, bd-more, bd-add, bd-inv, bd-mul, sc, bd-sc, lift, from-bd}
-use Rattle.numbers.proofs.Rounding.Expression.{rv, size-ab, pow1, pow2, ulp, add-bd, Fl, fv, _+ᶠ_, _*ᶠ_, pd, ex, mg, er, tame, closed, Sound, sound, size-mag}
+use Rattle.floats.proofs.Rounding.{rnd, Near, rnd-fix, rnd-mono, rnd-idem, below-or-from}
+use Rattle.floats.proofs.Rounding.Units.{U, O, U-pos, is-of, sign, mag, add-nan}
+use Rattle.floats.proofs.Rounding.NonNegative.{Ext, le-ext, add-ext, rnd-O, two-U, two-O, square-ext, rnd-ge}
+use Rattle.floats.proofs.Rounding.Error.{Fin, P, N, M, M/2, le-parts, div-err, unit-fin, m1-is}
+use Rattle.floats.proofs.Rounding.SignedPoly.{R, _⊞_, _⊠_, inv, nat, Ex, va, _∔_, _⋆_, minus, vanishes, ab, ab-add, ab-inv, ab-nat, ab-mul, ab-poly, Q, Bd, bd-more, bd-add, bd-inv, bd-mul, sc, bd-sc, lift, from-bd}
+use Rattle.floats.proofs.Rounding.Expression.{rv, size-ab, pow1, pow2, ulp, add-bd, Fl, fv, _+ᶠ_, _*ᶠ_, pd, ex, mg, er, tame, closed, Sound, sound, size-mag}
 use Rattle.numbers.specs.declared.vec3.Vec3.{Vec3}
-use Rattle.numbers.specs.Float.{_⊕_, _⊗_, f-1, decimal, within, signum}
+use Rattle.floats.specs.Float.{_⊕_, _⊗_, f-1, decimal, within, signum}
 use Rattle.numbers.specs.Vec3.{dot, lengthSquared, isDirection}
 use Rattle.numbers.specs.Onb.{slope}
 

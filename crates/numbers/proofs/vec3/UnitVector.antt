@@ -10,16 +10,16 @@ use lib.Dec.{lit≤, lit<}
 use mathlib.Core.Bool.{false}
 use lib.Ieee.{Float, Format, binary64}
 use lib.Ieee.Fits.{add-fits}
-use Rattle.numbers.proofs.Rounding.{rnd, Near, rnd-whole, rnd-all, below-or-from}
-use Rattle.numbers.proofs.Rounding.Units.{U, O, U-pos, Is, is-of, sign, mag}
-use Rattle.numbers.proofs.Rounding.Error.{Fin, M, M/2, mul-rnd, Within, unscale, div-sized}
-use Rattle.numbers.proofs.square_root.WholeRoot.{RootErr}
-use Rattle.numbers.proofs.Rounding.NonNegative.{Ext, add-ext, fine-under, fine-pos, two-O, square-ext}
+use Rattle.floats.proofs.Rounding.{rnd, Near, rnd-whole, rnd-all, below-or-from}
+use Rattle.floats.proofs.Rounding.Units.{U, O, U-pos, Is, is-of, sign, mag}
+use Rattle.floats.proofs.Rounding.Error.{Fin, M, M/2, mul-rnd, Within, unscale, div-sized}
+use Rattle.floats.proofs.square_root.WholeRoot.{RootErr}
+use Rattle.floats.proofs.Rounding.NonNegative.{Ext, add-ext, fine-under, fine-pos, two-O, square-ext}
 use Rattle.numbers.specs.declared.vec3.Vec3.{Vec3}
-use Rattle.numbers.specs.Float.{_⊕_, _⊗_}
-use Rattle.numbers.specs.SquareRoot.{sqrt}
+use Rattle.floats.specs.Float.{_⊕_, _⊗_}
+use Rattle.floats.specs.SquareRoot.{sqrt}
 use Rattle.numbers.specs.Vec3.{dot, lengthSquared, length, divFloat, normalize}
-use Rattle.numbers.proofs.square_root.RootOrZero.{rooted}
+use Rattle.floats.proofs.square_root.RootOrZero.{rooted}
 
 abbrev B : Format
 B = binary64

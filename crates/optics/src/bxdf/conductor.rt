@@ -3,7 +3,7 @@ use crate::bxdf;
 use crate::bxdf::Reflected;
 use crate::bxdf::Sampled;
 use crate::microfacet::Ggx;
-use numbers::float;
+use floats::float;
 use numbers::spherical_utils;
 use numbers::vec3::Vec3;
 ghost use mathlib.Core.Path.{_≡_};

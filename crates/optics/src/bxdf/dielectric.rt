@@ -5,7 +5,7 @@ use crate::bxdf::Refracted;
 use crate::bxdf::Sampled;
 use crate::microfacet;
 use crate::microfacet::Ggx;
-use numbers::float;
+use floats::float;
 use numbers::vec3::Vec3;
 ghost use mathlib.Core.Path.{_≡_};
 ghost use Rattle.optics.specs.Bxdf.{sampled, isSmooth, reflects, dielectricNormal, dielectricFrom, dielectricSample};

@@ -6,7 +6,7 @@ use lib.ListN.{length}
 use lib.Ieee.{nan}
 use borrow.Author.Needs.{needs}
 use Rattle.numbers.specs.DenseSpectrum.{allFinite}
-use Rattle.numbers.specs.Float.{isFinite}
+use Rattle.floats.specs.Float.{isFinite}
 use Rattle.numbers.proofs.dense_spectrum.Every.{Rest, rest-start, rest-next, rest-fails, rest-ends}
 use Rattle.numbers.proofs.dense_spectrum.all_finite.Statement.{statement}
 use Rattle.numbers.proofs.dense_spectrum.all_finite.Tie as tie

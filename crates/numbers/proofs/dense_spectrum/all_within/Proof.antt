@@ -6,7 +6,7 @@ use lib.ListN.{length}
 use lib.Ieee.{nan}
 use borrow.Author.Needs.{needs}
 use Rattle.numbers.specs.DenseSpectrum.{allWithin}
-use Rattle.numbers.specs.Float.{within}
+use Rattle.floats.specs.Float.{within}
 use Rattle.numbers.proofs.dense_spectrum.Every.{Rest, rest-start, rest-next, rest-fails, rest-ends}
 use Rattle.numbers.proofs.dense_spectrum.all_within.Statement.{statement}
 use Rattle.numbers.proofs.dense_spectrum.all_within.Tie as tie

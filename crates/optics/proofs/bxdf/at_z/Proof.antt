@@ -1,5 +1,5 @@
 -- `optics::bxdf::at_z` meets its contract: by the tests, in the order of the definition.
-use Rattle.numbers.specs.Float.{epsilon, decimal}
+use Rattle.floats.specs.Float.{epsilon, decimal}
 use Rattle.numbers.specs.SphericalUtils.{cosTheta}
 use Rattle.optics.specs.Density.{atZ}
 use lib.Ieee.{ofBits}

@@ -1,7 +1,7 @@
 -- `optics::check::eta_holds` meets its contract: by the test, in the order of the definition.
 use borrow.Author.Needs.{needs}
 use lib.Ieee.{ofBits}
-use Rattle.numbers.specs.Float.{decimal}
+use Rattle.floats.specs.Float.{decimal}
 use Rattle.optics.specs.Surface.{etaMin, etaHolds}
 use Rattle.optics.proofs.check.eta_holds.Statement.{statement}
 use Rattle.optics.proofs.check.eta_holds.Tie as tie

@@ -1,7 +1,7 @@
 -- `optics::check::is_circle_pair` meets its contract: by the test, in the order of the definition.
 use borrow.Author.Needs.{needs}
 use lib.Ieee.{ofBits, neg}
-use Rattle.numbers.specs.Float.{decimal}
+use Rattle.floats.specs.Float.{decimal}
 use Rattle.optics.specs.Check.{isCirclePair}
 use Rattle.optics.proofs.check.is_circle_pair.Statement.{statement}
 use Rattle.optics.proofs.check.is_circle_pair.Tie as tie

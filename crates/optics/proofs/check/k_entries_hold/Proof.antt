@@ -1,5 +1,5 @@
 -- `optics::check::k_entries_hold` meets its contract: the calls give what their contracts promise, and the definition is read in the same order.
-use Rattle.numbers.specs.Float.{decimal}
+use Rattle.floats.specs.Float.{decimal}
 use Rattle.optics.specs.Surface.{kEntriesHold, kMin}
 use lib.Ieee.{ofBits}
 use borrow.Author.Needs.{needs}

@@ -1,5 +1,5 @@
 -- `optics::microfacet::tangent` meets its contract: the calls give what their contracts promise, and the definition is read in the same order.
-use Rattle.numbers.specs.Float.{epsilon, decimal}
+use Rattle.floats.specs.Float.{epsilon, decimal}
 use Rattle.optics.specs.Sampler.{tangent}
 use lib.Ieee.{ofBits}
 use borrow.Author.Needs.{needs}

@@ -1,6 +1,6 @@
 -- `path::bsdf::seen_on_glass` meets its contract: the calls give what their contracts promise, and Λ(wo) handed on changes nothing, by `glass-density`.
 use borrow.Author.Needs.{needs}
-use Rattle.numbers.specs.Float.{f0}
+use Rattle.floats.specs.Float.{f0}
 use Rattle.optics.proofs.SharedTerms.{glass-density}
 use Rattle.path.proofs.bsdf.seen_on_glass.Statement.{statement}
 use Rattle.path.proofs.bsdf.seen_on_glass.Tie as tie

@@ -1,6 +1,6 @@
 -- `path::bsdf::seen_on_metal` meets its contract: the calls give what their contracts promise, and Λ(wo) handed on changes nothing, by `metal-density`.
 use borrow.Author.Needs.{needs}
-use Rattle.numbers.specs.Float.{f0}
+use Rattle.floats.specs.Float.{f0}
 use Rattle.optics.proofs.SharedTerms.{metal-density}
 use Rattle.path.proofs.bsdf.seen_on_metal.Statement.{statement}
 use Rattle.path.proofs.bsdf.seen_on_metal.Tie as tie

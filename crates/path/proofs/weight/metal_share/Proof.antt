@@ -1,7 +1,7 @@
 -- `path::weight::metal_share` meets its contract: `f != f` is the test for NaN.
 use lib.Ieee.{ofBits}
 use Rattle.path.specs.Bounce.{metalShare}
-use Rattle.numbers.proofs.float.FloatBits.{nan-test}
+use Rattle.floats.proofs.float.FloatBits.{nan-test}
 use Rattle.path.proofs.weight.metal_share.Statement.{statement}
 use Rattle.path.proofs.weight.metal_share.Tie as tie
 

@@ -1,7 +1,7 @@
 -- `numbers::vec3::Vec3::is_normalized` meets its contract: the calls give what their contracts promise, and the definition is read in the same order.
 use lib.Ieee.{ofBits}
 use borrow.Author.Needs.{needs}
-use Rattle.numbers.specs.Float.{epsilon, decimal}
+use Rattle.floats.specs.Float.{epsilon, decimal}
 use Rattle.numbers.specs.Vec3.{isNormalized}
 use Rattle.numbers.proofs.vec3.Vec3.is_normalized.Statement.{statement}
 use Rattle.numbers.proofs.vec3.Vec3.is_normalized.Tie as tie

@@ -1,5 +1,5 @@
 -- `optics::bxdf::dielectric::passed_pdf` meets its contract: the calls give what their contracts promise, and the definition is read in the same order.
-use Rattle.numbers.specs.Float.{powi2}
+use Rattle.floats.specs.Float.{powi2}
 use Rattle.optics.specs.Bxdf.{rest}
 use Rattle.optics.specs.Density.{passedPdf, bentPdf}
 use lib.Ieee.{ofBits}

@@ -1,5 +1,5 @@
 -- `optics::bxdf::dielectric::pdf` meets its contract: it is `pdf_with` from Λ(wo) where that is read, by `glass-density`.
-use Rattle.numbers.specs.Float.{f0}
+use Rattle.floats.specs.Float.{f0}
 use Rattle.optics.proofs.SharedTerms.{glass-density}
 use borrow.Author.Needs.{needs}
 use Rattle.optics.proofs.bxdf.dielectric.pdf.Statement.{statement}

@@ -1,5 +1,5 @@
 -- `optics::microfacet::Ggx::disney_diffuse` meets its contract: the calls give what their contracts promise, and the definition is read in the same order.
-use Rattle.numbers.specs.Float.{powi2, decimal}
+use Rattle.floats.specs.Float.{powi2, decimal}
 use Rattle.optics.specs.Facets.{disneyDiffuse, fd90, energyFactor}
 use lib.Ieee.{ofBits}
 use borrow.Author.Needs.{needs}

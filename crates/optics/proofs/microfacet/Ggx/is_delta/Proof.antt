@@ -1,6 +1,6 @@
 -- `optics::microfacet::Ggx::is_delta` meets its contract: its operations are the definition's, one by one.
 use mathlib.Core.Path.{refl}
-use Rattle.numbers.specs.Float.{decimal}
+use Rattle.floats.specs.Float.{decimal}
 use Rattle.optics.specs.Facets.{isDelta}
 use lib.Ieee.{ofBits}
 use Rattle.optics.proofs.microfacet.Ggx.is_delta.Statement.{statement}

@@ -1,5 +1,5 @@
 -- `optics::microfacet::Ggx::lambda` meets its contract: the calls give what their contracts promise, and both azimuths are from the one sine, by `cos-phi` and `sin-phi`.
-use Rattle.numbers.specs.Float.{powi2}
+use Rattle.floats.specs.Float.{powi2}
 use Rattle.numbers.specs.SphericalUtils.{tan2Theta, sin2Theta, cos2Theta, sinTheta}
 use Rattle.optics.specs.Facets.{lambda, lambdaOf, alpha2}
 use lib.Ieee.{ofBits}
