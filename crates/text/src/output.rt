@@ -31,10 +31,18 @@ fn decimal_digit(out: &mut [u8], n: usize, value: u64, unit: u64) -> usize {
     byte(out, n, glyph(value / unit % 10))
 }
 
+// A power of ten that no digit of a value stands before; small for a small value, to save turns.
+fn first_unit(value: u64) -> u64 {
+    if value < 1000000 {
+        return 100000;
+    }
+    10000000000000000000
+}
+
 // The decimal digits of a value.
 pub fn decimal(out: &mut [u8], n: usize, value: u64) -> usize {
     let mut used = n;
-    let mut unit: u64 = 10000000000000000000;
+    let mut unit = first_unit(value);
     while unit > 0 {
         used = decimal_digit(out, used, value, unit);
         unit /= 10;

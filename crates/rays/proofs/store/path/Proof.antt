@@ -1,6 +1,5 @@
 -- `path` meets its contract: the wavelengths from the path's place on, and the powers behind them.
 use borrow.Author.Needs.{needs}
-use native.Mathlib.Omega.{arith}
 use Rattle.rays.specs.Store.{pathPlace, pathIn}
 use Rattle.rays.proofs.store.path.Statement.{statement}
 use Rattle.rays.proofs.store.path.Tie as tie

@@ -1,5 +1,5 @@
 -- `put` meets its contract: what is left to store, stored in what the values are by now, is what all would be. The measure is how many numbers are left.
-use Prim.Native.Nat.{_-_, _≤_}
+use Prim.Native.Nat.{_-_}
 use mathlib.Core.Path.{_≡_, refl, _∙_}
 use native.Mathlib.Omega.{arith}
 use lib.Ieee.{nan}

@@ -19,4 +19,4 @@ same-length : tie.Need-same-length Inv-loop μ-loop
 same-length c = c .before .loop .inv
 
 pub decimal-spec : {M : Type 1} → statement M
-decimal-spec = tie.close (tie.spec Inv-loop μ-loop (λ c. refl) (λ c κs. tt) (λ c. omega arith) loop-again same-length (λ c. tt))
+decimal-spec = tie.close (tie.spec Inv-loop μ-loop (λ c κs. tt) (λ c. refl) (λ c κs. tt) (λ c. omega arith) loop-again same-length (λ c. tt))
