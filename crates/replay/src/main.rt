@@ -9,8 +9,8 @@ mod bounces;
 mod checked;
 mod complexes;
 mod facets;
-mod floats;
 mod record;
+mod scalars;
 mod spectra;
 mod surfaces;
 mod vectors2;
@@ -81,7 +81,7 @@ fn same(fd: i32, number: u64, w: &[f64; 30], eta: &[f64], k: &[f64]) -> bool {
         return surfaces::replay(fd, number, w, eta, k);
     }
     match number / 100 {
-        1 => floats::replay(fd, number, w),
+        1 => scalars::replay(fd, number, w),
         2 => vectors2::replay(fd, number, w),
         3 => vectors3::replay(fd, number, w),
         4 => complexes::replay(fd, number, w),

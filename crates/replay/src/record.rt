@@ -2,7 +2,7 @@
 //
 //   NNN II O WORD .. WORD      in decimal, and each word 16 hexadecimal digits
 use text::digits;
-use text::floats;
+use text::patterns;
 use text::words::part;
 
 // What a record begins with; how many words come out is known by the function.
@@ -46,7 +46,7 @@ fn word_if(fd: i32, there: bool) -> u64 {
 }
 
 pub fn float_if(fd: i32, there: bool) -> f64 {
-    floats::of_bits(word_if(fd, there))
+    patterns::of_bits(word_if(fd, there))
 }
 
 // The entries of a spectrum, of which `n` are there.

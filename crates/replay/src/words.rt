@@ -12,7 +12,7 @@ use optics::microfacet::Kind;
 use optics::microfacet::Surface;
 use rulvimba::records;
 use rulvimba::records::DirectionResult;
-use text::floats;
+use text::patterns;
 
 // ---- in
 pub fn is_true(x: f64) -> bool {
@@ -81,7 +81,7 @@ pub fn same_bool(fd: i32, b: bool) -> bool {
 }
 
 pub fn same_float(fd: i32, x: f64) -> bool {
-    same_number(fd, floats::bits(x))
+    same_number(fd, patterns::bits(x))
 }
 
 pub fn same_vec2(fd: i32, v: Vec2) -> bool {

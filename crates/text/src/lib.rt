@@ -4,7 +4,7 @@ pub mod answers;
 pub mod buffer;
 pub mod digits;
 pub mod faults;
-pub mod floats;
 pub mod line;
 pub mod output;
+pub mod patterns;
 pub mod words;

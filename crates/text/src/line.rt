@@ -1,7 +1,7 @@
 // The words of a line of a job, read one after the other. A cursor keeps the first fault that was met:
 // past it nothing is read.
 use crate::digits;
-use crate::floats;
+use crate::patterns;
 use crate::words;
 use crate::words::is_blank;
 use crate::words::part;
@@ -174,7 +174,7 @@ pub fn number(text: &[u8], c: Cursor) -> NumberRead {
         return no_number(b, Fault::Number);
     }
     NumberRead {
-        value: floats::of_bits(read.bits),
+        value: patterns::of_bits(read.bits),
         next: b.past(end),
     }
 }

@@ -1,6 +1,6 @@
 // Text put behind the first `n` bytes of a buffer. Each function answers how many bytes are used then;
 // what finds no room is left out.
-use crate::floats;
+use crate::patterns;
 
 pub fn byte(out: &mut [u8], n: usize, b: u8) -> usize {
     if n < out.len() {
@@ -81,7 +81,7 @@ fn hex16(out: &mut [u8], n: usize, bits: u64) -> usize {
 // A blank and the number.
 pub fn number(out: &mut [u8], n: usize, x: f64) -> usize {
     let a = byte(out, n, b' ');
-    hex16(out, a, floats::bits(x))
+    hex16(out, a, patterns::bits(x))
 }
 
 fn numbers(out: &mut [u8], n: usize, values: &[f64]) -> usize {

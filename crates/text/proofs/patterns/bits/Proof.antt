@@ -4,8 +4,8 @@ use mathlib.Core.Bool.{false, not, true≢false}
 use lib.Dec.{T}
 use lib.Ieee.{Float, nan, inf, fin, isNan, ne}
 use borrow.Author.Needs.{needs}
-use Rattle.text.proofs.floats.bits.Statement.{statement}
-use Rattle.text.proofs.floats.bits.Tie as tie
+use Rattle.text.proofs.patterns.bits.Statement.{statement}
+use Rattle.text.proofs.patterns.bits.Tie as tie
 
 not-nan : (x : Float) → ne x x ≡ false → T (not (isNan x))
 unfolding ne isNan
