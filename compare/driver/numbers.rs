@@ -1,4 +1,4 @@
-//! The crate `numbers` beside lumo's floats, vectors, complex numbers, bases and angles.
+//! The crates `floats` and `numbers` beside lumo's floats, vectors, complex numbers, bases and angles.
 use super::harness::*;
 use super::inputs::{Rng, Slot};
 use super::rulvimba;

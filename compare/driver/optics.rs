@@ -1,4 +1,4 @@
-//! The crate `optics` beside lumo's facets, Fresnel terms, sampler, mirror, bend and densities: the checked calls that
+//! The crates `optics` and `counter` beside lumo's facets, Fresnel terms, sampler, mirror, bend and densities: the checked calls that
 //! librulvimba has go through it.
 use super::harness::*;
 use super::inputs::{Rng, Slot};

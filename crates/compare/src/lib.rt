@@ -1,5 +1,5 @@
-// The functions of numbers under names for C, but for the checked ones, for the comparison with lumo's
-// Rust. Each returns what the function that it calls returns, by the same definition. Nothing else uses
+// The functions of floats and numbers under names for C, but for the checked ones, for the comparison
+// with lumo's Rust. Each returns what the function that it calls returns, by the same definition. Nothing else uses
 // this crate.
 mod complex;
 mod dense_spectrum;

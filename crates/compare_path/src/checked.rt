@@ -1,4 +1,4 @@
-// The calls that refuse: of numbers, but for the lookup, and those of optics that librulvimba doesn't
+// The calls that refuse: of numbers, but for the lookup, and those of counter that librulvimba doesn't
 // export.
 use crate::results;
 use crate::results::BoolResult;

@@ -1,5 +1,5 @@
 // Facets of metal and glass: the GGX half of lumo's src/tracer/microfacet.rs.
-// These take any floats and refuse none; the forms that check stand in `checked`.
+// These take any floats and refuse none; the forms that check stand in the crate `counter`.
 use crate::color::Color;
 use floats::float;
 use floats::square_root::sqrt;
