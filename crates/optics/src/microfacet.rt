@@ -295,13 +295,13 @@ impl Ggx {
     pub fn sample_normal(self, wo: Vec3, disk: f64, c: f64, s: f64) -> Vec3
         ensures { λ r. ⌜ r ≡ sampleNormal (self .roughness) wo disk c s ⌝ }
     {
+        let r = sqrt(disk);
         // Map the GGX ellipsoid to a hemisphere
         let v = self.viewed(wo);
-        let r = sqrt(disk);
-        // ONB basis of the hemisphere configuration
-        let u = tangent(v);
         // compute normal in hemisphere configuration
         let wm = on_hemisphere(v, r, c, s);
+        // ONB basis of the hemisphere configuration
+        let u = tangent(v);
         // move back to ellipsoid
         self.unstretched(combined(u, v, wm))
     }

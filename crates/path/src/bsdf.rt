@@ -211,10 +211,9 @@ fn seen_on_metal(mfd: Ggx, wo: Vec3, wi: Vec3, wh: Vec3) -> Seen
 {
     let delta = mfd.is_delta();
     let lambda_wo = mfd.lambda_unless(delta, wo);
-    Seen {
-        pdf: conductor::pdf_with(lambda_wo, wo, wi, mfd),
-        q: weight::shadowing(mfd, delta, lambda_wo, wo, wi, wh),
-    }
+    let q = weight::shadowing(mfd, delta, lambda_wo, wo, wi, wh);
+    let pdf = conductor::pdf_with(lambda_wo, wo, wi, mfd);
+    Seen { pdf, q }
 }
 
 fn seen_on_glass(mfd: Ggx, eta: f64, k: f64, wo: Vec3, wi: Vec3, wh: Vec3, reflection: bool) -> Seen
@@ -222,10 +221,9 @@ fn seen_on_glass(mfd: Ggx, eta: f64, k: f64, wo: Vec3, wi: Vec3, wh: Vec3, refle
 {
     let smooth = dielectric::is_smooth(mfd, eta);
     let lambda_wo = mfd.lambda_unless(smooth, wo);
-    Seen {
-        pdf: dielectric::pdf_with(lambda_wo, wo, wi, reflection, mfd, eta, k),
-        q: weight::shadowing(mfd, smooth, lambda_wo, wo, wi, wh),
-    }
+    let q = weight::shadowing(mfd, smooth, lambda_wo, wo, wi, wh);
+    let pdf = dielectric::pdf_with(lambda_wo, wo, wi, reflection, mfd, eta, k);
+    Seen { pdf, q }
 }
 
 // No power is left of light that is lost.

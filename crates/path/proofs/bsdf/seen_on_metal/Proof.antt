@@ -7,11 +7,11 @@ use Rattle.path.proofs.bsdf.seen_on_metal.Tie as tie
 
 returns : tie.Need-returns
 returns c =
-    let at-pdf-with = c .before in
-    let at-lambda-unless = at-pdf-with .before in
+    let at-shadowing = c .before in
+    let at-lambda-unless = at-shadowing .before in
     let one = at-lambda-unless .before .is-delta .ensures in (
-      rw (at-pdf-with .pdf-with .ensures, at-lambda-unless .lambda-unless .ensures, one) (metal-density _ f0 _ _),
-      rw (c .shadowing .ensures, one),
+      rw (c .pdf-with .ensures, at-lambda-unless .lambda-unless .ensures, one) (metal-density _ f0 _ _),
+      rw (at-shadowing .shadowing .ensures, one),
     )
 
 pub seen-on-metal-spec : {M : Type 1} → statement M

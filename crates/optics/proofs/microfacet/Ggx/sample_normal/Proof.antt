@@ -9,4 +9,4 @@ unfolding sampleNormal
 sample-normal-spec = tie.close (tie.spec (λ c κs. search needs) (λ c κs. search needs) (λ c κs. search needs) (λ c κs. search needs)
     (λ c κs. search needs) (λ c κs. search needs)
     (λ c. let p = c .before .before in
-    rw (← p .before .before .before .viewed .ensures, ← p .before .before .sqrt .ensures, ← p .before .tangent .ensures, ← p .on-hemisphere .ensures, ← c .before .combined .ensures, ← c .unstretched .ensures)))
+    rw (← p .before .before .before .sqrt .ensures, ← p .before .before .viewed .ensures, ← p .before .on-hemisphere .ensures, ← p .tangent .ensures, ← c .before .combined .ensures, ← c .unstretched .ensures)))
