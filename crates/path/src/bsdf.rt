@@ -22,12 +22,13 @@ use optics::microfacet::Ggx;
 use optics::microfacet::Kind;
 use optics::microfacet::Surface;
 ghost use mathlib.Core.Path.{_≡_};
+ghost use mathlib.Core.Bool.{cond};
 ghost use Rattle.floats.specs.Float.{f0};
 ghost use Rattle.optics.specs.Color.{color};
 ghost use Rattle.numbers.specs.Refusal.{verdict};
 ghost use Rattle.optics.specs.Check.{checkSurface};
 ghost use Rattle.optics.specs.Surface.{microsurface, constantEta};
-ghost use Rattle.optics.specs.Facets.{isDelta};
+ghost use Rattle.optics.specs.Facets.{isDelta, lambda};
 ghost use Rattle.optics.specs.Bxdf.{isSmooth};
 ghost use Rattle.optics.specs.Density.{conductorPdf, dielectricPdf};
 ghost use Rattle.optics.specs.declared.microfacet.Kind.the-variants.{Metal, Glass};
@@ -108,11 +109,13 @@ fn on_metal(path: Path, surface: Surface, eta: &[f64], k: &[f64], b: Bounce) -> 
     let roughness = surface.roughness;
     let mfd = Ggx { roughness };
     let wh = conductor::normal(wo, mfd, b.disk, b.c, b.s);
+    let delta = mfd.is_delta();
+    let lambda_wo = mfd.lambda_unless(delta, wo);
     let Sampled::Direction { wi, reflection: _ } = conductor::sample_from(wo, mfd, wh) else {
         return lost(path, Shares::None);
     };
 
-    let seen = seen_on_metal(mfd, wo, wi, wh);
+    let seen = seen_on_metal(delta, lambda_wo, mfd, wo, wi, wh);
     let filter = weight::metal_filter(b.ks, microfacet::f(eta, k, wo, wh, path.lambda));
     Bounced::Reflected {
         wi: uvw.to_world(wi),
@@ -147,6 +150,8 @@ fn on_glass(
     let roughness = surface.roughness;
     let mfd = Ggx { roughness };
     let wh = dielectric::normal(wo, mfd, at.eta, b.disk, b.c, b.s);
+    let smooth = dielectric::is_smooth(mfd, at.eta);
+    let lambda_wo = mfd.lambda_unless(smooth, wo);
     let f = microfacet::f_at(wo, wh, at.eta, at.k);
     let shares = Shares::Of {
         reflected: f,
@@ -157,7 +162,7 @@ fn on_glass(
         return lost(left, shares);
     };
 
-    let seen = seen_on_glass(mfd, at.eta, at.k, wo, wi, wh, reflection);
+    let seen = seen_on_glass(smooth, lambda_wo, mfd, at.eta, at.k, wo, wi, wh, reflection);
     let filter = weight::glass_filter(reflection, b.ks, b.tf);
     sent(
         reflection,
@@ -200,27 +205,35 @@ fn left_on_glass(constant: Constant, eta: &[f64], lambda: Color) -> Color
 }
 
 // Of a sampled direction: its density, and the share q of the light that the facets let through to it.
-// Both read Λ(wo), which is computed once.
+// Both read Λ(wo), which is handed on, as is whether the surface scatters into one direction.
 struct Seen {
     pdf: f64,
     q: f64,
 }
 
-fn seen_on_metal(mfd: Ggx, wo: Vec3, wi: Vec3, wh: Vec3) -> Seen
+fn seen_on_metal(delta: bool, lambda_wo: f64, mfd: Ggx, wo: Vec3, wi: Vec3, wh: Vec3) -> Seen
+    requires { ⌜ (delta ≡ isDelta (mfd .roughness)) × («lambda_wo» ≡ cond delta f0 (lambda (mfd .roughness) wo)) ⌝ }
     ensures { λ r. ⌜ (r .pdf ≡ conductorPdf (mfd .roughness) wo wi) × (r .q ≡ shadowing (isDelta (mfd .roughness)) (mfd .roughness) wo wi wh) ⌝ }
 {
-    let delta = mfd.is_delta();
-    let lambda_wo = mfd.lambda_unless(delta, wo);
     let q = weight::shadowing(mfd, delta, lambda_wo, wo, wi, wh);
     let pdf = conductor::pdf_with(lambda_wo, wo, wi, mfd);
     Seen { pdf, q }
 }
 
-fn seen_on_glass(mfd: Ggx, eta: f64, k: f64, wo: Vec3, wi: Vec3, wh: Vec3, reflection: bool) -> Seen
+fn seen_on_glass(
+    smooth: bool,
+    lambda_wo: f64,
+    mfd: Ggx,
+    eta: f64,
+    k: f64,
+    wo: Vec3,
+    wi: Vec3,
+    wh: Vec3,
+    reflection: bool,
+) -> Seen
+    requires { ⌜ (smooth ≡ isSmooth (mfd .roughness) eta) × («lambda_wo» ≡ cond smooth f0 (lambda (mfd .roughness) wo)) ⌝ }
     ensures { λ r. ⌜ (r .pdf ≡ dielectricPdf (mfd .roughness) eta k reflection wo wi) × (r .q ≡ shadowing (isSmooth (mfd .roughness) eta) (mfd .roughness) wo wi wh) ⌝ }
 {
-    let smooth = dielectric::is_smooth(mfd, eta);
-    let lambda_wo = mfd.lambda_unless(smooth, wo);
     let q = weight::shadowing(mfd, smooth, lambda_wo, wo, wi, wh);
     let pdf = dielectric::pdf_with(lambda_wo, wo, wi, reflection, mfd, eta, k);
     Seen { pdf, q }

@@ -12,14 +12,15 @@ unfolding rest ofBits
 returns c =
     let at-sample = c .before .before in
     let at-f-at = at-sample .before in
-    let at-to-local = at-f-at .before .before .before in
+    let at-normal = at-f-at .before .before .before in
+    let at-to-local = at-normal .before .before in
     let at-constants = at-to-local .before .before in
     let at-left = at-constants .before .before .before in
     let at-pre = at-left .before .before .before in
     rw (at-pre .pre .0, c .lost .ensures)
     (sym (glass-lost _ _ _ _ (at-pre .args .b) _ (at-left .left-on-glass .ensures) _ (at-constants .before .leading-sample .ensures) _
     (at-constants .optical-constants .ensures .0) _ (at-constants .optical-constants .ensures .1) _ (at-to-local .before .new .ensures) _
-    (at-to-local .to-local .ensures) _ (at-f-at .before .normal .ensures) _ (at-f-at .f-at .ensures) _ (at-sample .sample-from .ensures)
+    (at-to-local .to-local .ensures) _ (at-normal .normal .ensures) _ (at-f-at .f-at .ensures) _ (at-sample .sample-from .ensures)
     (c .before .match .keys2)))
 
 returns-2 : tie.Need-returns-2
@@ -31,18 +32,25 @@ returns-2 c =
     let at-wi = at-seen .before .before in
     let at-sample = at-wi .before .before in
     let at-f-at = at-sample .before in
-    let at-to-local = at-f-at .before .before .before in
+    let at-normal = at-f-at .before .before .before in
+    let at-to-local = at-normal .before .before in
     let at-constants = at-to-local .before .before in
     let at-left = at-constants .before .before .before in
     let at-pre = at-left .before .before .before in
     rw (at-pre .pre .0, c .sent .ensures, at-to-world .to-world .ensures, at-weights .before .density-of .ensures, c .before .weighed .ensures, at-weights .weights .ensures, at-to-world .before .glass-filter .ensures, at-seen .seen-on-glass .ensures .0, at-seen .seen-on-glass .ensures .1)
     (sym (glass-sent _ _ _ _ (at-pre .args .b) _ (at-left .left-on-glass .ensures) _ (at-constants .before .leading-sample .ensures) _
     (at-constants .optical-constants .ensures .0) _ (at-constants .optical-constants .ensures .1) _ (at-to-local .before .new .ensures) _
-    (at-to-local .to-local .ensures) _ (at-f-at .before .normal .ensures) _ (at-f-at .f-at .ensures) _ (at-sample .sample-from .ensures) _ _
+    (at-to-local .to-local .ensures) _ (at-normal .normal .ensures) _ (at-f-at .f-at .ensures) _ (at-sample .sample-from .ensures) _ _
     (at-wi .wi .given .1)))
+
+seen-needs : tie.Need-seen-on-glass-requires
+seen-needs c κs =
+    let at-lambda = c .before .before .before .before .before in
+    let at-smooth = at-lambda .before in
+    (at-smooth .is-smooth .ensures, at-lambda .lambda-unless .ensures)
 
 pub on-glass-spec : {M : Type 1} → statement M
 on-glass-spec = tie.close (tie.spec (λ c κs. search needs) (λ c κs. search needs) (λ c κs. search needs) (λ c κs. search needs) (λ c κs. search needs)
-    (λ c κs. search needs) (λ c κs. search needs) (λ c κs. search needs) (λ c. search needs) (λ c κs. search needs) returns
-    (λ c κs. search needs) (λ c κs. search needs) (λ c κs. search needs) (λ c κs. search needs) (λ c κs. search needs) (λ c κs. search needs)
-    (λ c κs. search needs) returns-2)
+    (λ c κs. search needs) (λ c κs. search needs) (λ c κs. search needs) (λ c κs. search needs) (λ c κs. search needs) (λ c. search needs)
+    (λ c κs. search needs) returns seen-needs (λ c κs. search needs) (λ c κs. search needs) (λ c κs. search needs) (λ c κs. search needs)
+    (λ c κs. search needs) (λ c κs. search needs) returns-2)

@@ -15,7 +15,7 @@ returns c =
 returns-2 : tie.Need-returns-2
 returns-2 c =
     let at-sample = c .before .before in
-    let at-normal = at-sample .before in
+    let at-normal = at-sample .before .before .before in
     let at-to-local = at-normal .before .before in
     let at-if1 = at-to-local .before .before in
     let at-pre = at-if1 .before .before .before in
@@ -34,7 +34,7 @@ returns-3 c =
     let at-seen = at-f .before in
     let at-wi = at-seen .before .before in
     let at-sample = at-wi .before .before in
-    let at-normal = at-sample .before in
+    let at-normal = at-sample .before .before .before in
     let at-to-local = at-normal .before .before in
     let at-if1 = at-to-local .before .before in
     let at-pre = at-if1 .before .before .before in
@@ -42,9 +42,15 @@ returns-3 c =
     (sym (metal-sent _ _ _ _ (at-pre .args .b) (at-if1 .if1 .left) _ (at-to-local .before .new .ensures) _ (at-to-local .to-local .ensures) _
     (at-normal .normal .ensures) _ (at-sample .sample-from .ensures) _ _ (at-wi .wi .given .1)))
 
+seen-needs : tie.Need-seen-on-metal-requires
+seen-needs c κs =
+    let at-lambda = c .before .before .before .before in
+    let at-delta = at-lambda .before in
+    (at-delta .is-delta .ensures, at-lambda .lambda-unless .ensures)
+
 pub on-metal-spec : {M : Type 1} → statement M
 on-metal-spec =
     tie.close
     (tie.spec (λ c κs. search needs) returns (λ c κs. search needs) (λ c κs. search needs) (λ c κs. search needs) (λ c κs. search needs)
-    (λ c. search needs) (λ c κs. search needs) returns-2 (λ c κs. search needs) (λ c κs. search needs) (λ c κs. search needs) (λ c κs. search needs)
-    (λ c κs. search needs) (λ c κs. search needs) (λ c κs. search needs) returns-3)
+    (λ c κs. search needs) (λ c κs. search needs) (λ c. search needs) (λ c κs. search needs) returns-2 seen-needs (λ c κs. search needs)
+    (λ c κs. search needs) (λ c κs. search needs) (λ c κs. search needs) (λ c κs. search needs) (λ c κs. search needs) returns-3)

@@ -8,11 +8,10 @@ use Rattle.path.proofs.bsdf.seen_on_metal.Tie as tie
 returns : tie.Need-returns
 returns c =
     let at-shadowing = c .before in
-    let at-lambda-unless = at-shadowing .before in
-    let one = at-lambda-unless .before .is-delta .ensures in (
-      rw (c .pdf-with .ensures, at-lambda-unless .lambda-unless .ensures, one) (metal-density _ f0 _ _),
-      rw (at-shadowing .shadowing .ensures, one),
+    let pre = at-shadowing .before .pre in (
+      rw (c .pdf-with .ensures, pre .1, pre .0) (metal-density _ f0 _ _),
+      rw (at-shadowing .shadowing .ensures, pre .0),
     )
 
 pub seen-on-metal-spec : {M : Type 1} → statement M
-seen-on-metal-spec = tie.close (tie.spec (λ c κs. search needs) (λ c κs. search needs) (λ c κs. search needs) (λ c κs. search needs) returns)
+seen-on-metal-spec = tie.close (tie.spec (λ c κs. search needs) (λ c κs. search needs) returns)
