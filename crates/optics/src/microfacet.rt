@@ -295,6 +295,7 @@ impl Ggx {
     pub fn sample_normal(self, wo: Vec3, disk: f64, c: f64, s: f64) -> Vec3
         ensures { λ r. ⌜ r ≡ sampleNormal (self .roughness) wo disk c s ⌝ }
     {
+        // in this order a root is begun as soon as what it is of is there
         let r = sqrt(disk);
         // Map the GGX ellipsoid to a hemisphere
         let v = self.viewed(wo);

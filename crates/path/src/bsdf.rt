@@ -109,6 +109,7 @@ fn on_metal(path: Path, surface: Surface, eta: &[f64], k: &[f64], b: Bounce) -> 
     let roughness = surface.roughness;
     let mfd = Ggx { roughness };
     let wh = conductor::normal(wo, mfd, b.disk, b.c, b.s);
+    // the roots of Λ(wo) wait for no other: they are worked while those of the normal are waited for
     let delta = mfd.is_delta();
     let lambda_wo = mfd.lambda_unless(delta, wo);
     let Sampled::Direction { wi, reflection: _ } = conductor::sample_from(wo, mfd, wh) else {
@@ -150,6 +151,7 @@ fn on_glass(
     let roughness = surface.roughness;
     let mfd = Ggx { roughness };
     let wh = dielectric::normal(wo, mfd, at.eta, b.disk, b.c, b.s);
+    // the roots of Λ(wo) wait for no other: they are worked while those of the normal are waited for
     let smooth = dielectric::is_smooth(mfd, at.eta);
     let lambda_wo = mfd.lambda_unless(smooth, wo);
     let f = microfacet::f_at(wo, wh, at.eta, at.k);
