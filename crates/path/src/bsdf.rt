@@ -207,7 +207,8 @@ fn left_on_glass(constant: Constant, eta: &[f64], lambda: Color) -> Color
 }
 
 // Of a sampled direction: its density, and the share q of the light that the facets let through to it.
-// Both read Λ(wo), which is handed on, as is whether the surface scatters into one direction.
+// Both read Λ(wo), which is handed on, as is whether the surface scatters into one direction. The normal
+// that takes wo to wi stands first: its root is the one that most waits for.
 struct Seen {
     pdf: f64,
     q: f64,
@@ -217,8 +218,9 @@ fn seen_on_metal(delta: bool, lambda_wo: f64, mfd: Ggx, wo: Vec3, wi: Vec3, wh: 
     requires { ⌜ (delta ≡ isDelta (mfd .roughness)) × («lambda_wo» ≡ cond delta f0 (lambda (mfd .roughness) wo)) ⌝ }
     ensures { λ r. ⌜ (r .pdf ≡ conductorPdf (mfd .roughness) wo wi) × (r .q ≡ shadowing (isDelta (mfd .roughness)) (mfd .roughness) wo wi wh) ⌝ }
 {
+    let half = conductor::half(wo, wi);
     let q = weight::shadowing(mfd, delta, lambda_wo, wo, wi, wh);
-    let pdf = conductor::pdf_with(lambda_wo, wo, wi, mfd);
+    let pdf = conductor::pdf_at(lambda_wo, wo, wi, half, mfd);
     Seen { pdf, q }
 }
 
@@ -236,8 +238,10 @@ fn seen_on_glass(
     requires { ⌜ (smooth ≡ isSmooth (mfd .roughness) eta) × («lambda_wo» ≡ cond smooth f0 (lambda (mfd .roughness) wo)) ⌝ }
     ensures { λ r. ⌜ (r .pdf ≡ dielectricPdf (mfd .roughness) eta k reflection wo wi) × (r .q ≡ shadowing (isSmooth (mfd .roughness) eta) (mfd .roughness) wo wi wh) ⌝ }
 {
+    let ratio = dielectric::eta_ratio(reflection, wo, eta);
+    let half = dielectric::half(eta, ratio, wo, wi);
     let q = weight::shadowing(mfd, smooth, lambda_wo, wo, wi, wh);
-    let pdf = dielectric::pdf_with(lambda_wo, wo, wi, reflection, mfd, eta, k);
+    let pdf = dielectric::pdf_at(lambda_wo, wo, wi, half, reflection, mfd, eta, k, ratio);
     Seen { pdf, q }
 }
 

@@ -8,8 +8,10 @@ use numbers::spherical_utils;
 use numbers::vec3::Vec3;
 ghost use mathlib.Core.Path.{_≡_};
 ghost use Rattle.optics.specs.Bxdf.{sampled, conductorNormal, conductorFrom, conductorSample};
-ghost use Rattle.optics.specs.Density.{conductorPdf};
-ghost use Rattle.optics.specs.SharedTerms.{conductorPdfWith};
+ghost use Rattle.numbers.specs.Vec3.{dot};
+ghost use Rattle.optics.specs.Facets.{isDelta};
+ghost use Rattle.optics.specs.Density.{conductorHalf, conductorPdfFrom, conductorPdf};
+ghost use Rattle.optics.specs.SharedTerms.{sampleNormalPdfAt, conductorPdfWith};
 
 // The facet's normal: Z if delta.
 pub fn normal(wo: Vec3, mfd: Ggx, disk: f64, c: f64, s: f64) -> Vec3
@@ -61,9 +63,22 @@ pub fn pdf(wo: Vec3, wi: Vec3, mfd: Ggx) -> f64
 pub fn pdf_with(lambda_wo: f64, wo: Vec3, wi: Vec3, mfd: Ggx) -> f64
     ensures { λ r. ⌜ r ≡ conductorPdfWith (mfd .roughness) «lambda_wo» wo wi ⌝ }
 {
+    pdf_at(lambda_wo, wo, wi, half(wo, wi), mfd)
+}
+
+// The normal that takes `wo` to `wi`.
+pub fn half(wo: Vec3, wi: Vec3) -> Vec3
+    ensures { λ r. ⌜ r ≡ conductorHalf wo wi ⌝ }
+{
+    bxdf::on_z_side(wo.add(wi).normalize())
+}
+
+// `pdf` with Λ(wo) and the normal that takes `wo` to `wi` at hand.
+pub fn pdf_at(lambda_wo: f64, wo: Vec3, wi: Vec3, wh: Vec3, mfd: Ggx) -> f64
+    ensures { λ r. ⌜ r ≡ conductorPdfFrom (sampleNormalPdfAt (mfd .roughness) «lambda_wo» (dot wo wh) wh wo) (isDelta (mfd .roughness)) wo wi wh ⌝ }
+{
     // check if in same hemisphere or perpendicular to normal
     if spherical_utils::same_hemisphere(wi, wo) {
-        let wh = bxdf::on_z_side(wo.add(wi).normalize());
         if mfd.is_delta() {
             return bxdf::at_z(wh, 1.0);
         }

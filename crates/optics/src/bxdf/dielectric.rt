@@ -103,7 +103,8 @@ pub fn pdf_with(
     pdf_at(lambda_wo, wo, wi, wh, reflection, mfd, eta, k, ratio)
 }
 
-fn eta_ratio(reflection: bool, wo: Vec3, eta: f64) -> f64
+// The index from `wo`'s side to `wi`'s: 1 for a reflection.
+pub fn eta_ratio(reflection: bool, wo: Vec3, eta: f64) -> f64
     ensures { λ r. ⌜ r ≡ etaRatio reflection wo eta ⌝ }
 {
     if reflection {
@@ -116,7 +117,7 @@ fn eta_ratio(reflection: bool, wo: Vec3, eta: f64) -> f64
 }
 
 // The normal that takes `wo` to `wi`.
-fn half(eta: f64, ratio: f64, wo: Vec3, wi: Vec3) -> Vec3
+pub fn half(eta: f64, ratio: f64, wo: Vec3, wi: Vec3) -> Vec3
     ensures { λ r. ⌜ r ≡ dielectricHalf eta ratio wo wi ⌝ }
 {
     if eta == 1.0 {
@@ -125,7 +126,8 @@ fn half(eta: f64, ratio: f64, wo: Vec3, wi: Vec3) -> Vec3
     bxdf::on_z_side(wo.add(wi.mul_float(ratio)).normalize())
 }
 
-fn pdf_at(
+// `pdf` with Λ(wo), the index and the normal that takes `wo` to `wi` at hand.
+pub fn pdf_at(
     lambda_wo: f64,
     wo: Vec3,
     wi: Vec3,
