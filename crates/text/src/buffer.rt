@@ -21,11 +21,9 @@ fn line_feed_at(buf: &[u8], at: usize) -> bool {
 
 // The byte `by` places behind `i`, moved to `i`.
 fn move_byte(buf: &mut [u8], i: usize, by: usize) {
-    if by <= buf.len() {
-        if i < buf.len() - by {
-            let b = buf[by + i];
-            buf[i] = b;
-        }
+    if by <= buf.len() && i < buf.len() - by {
+        let b = buf[by + i];
+        buf[i] = b;
     }
 }
 

@@ -34,14 +34,8 @@ fn hex4(a: u8, b: u8, c: u8, d: u8) -> u64
     let q = digit(b);
     let r = digit(c);
     let s = digit(d);
-    if p < 16 {
-        if q < 16 {
-            if r < 16 {
-                if s < 16 {
-                    return p * 4096 + q * 256 + r * 16 + s;
-                }
-            }
-        }
+    if p < 16 && q < 16 && r < 16 && s < 16 {
+        return p * 4096 + q * 256 + r * 16 + s;
     }
     65536
 }
@@ -55,10 +49,8 @@ fn hex8(t: &[u8]) -> u64
     }
     let a = hex4(t[0], t[1], t[2], t[3]);
     let b = hex4(t[4], t[5], t[6], t[7]);
-    if a < 65536 {
-        if b < 65536 {
-            return a * 65536 + b;
-        }
+    if a < 65536 && b < 65536 {
+        return a * 65536 + b;
     }
     4294967296
 }
@@ -67,13 +59,11 @@ fn hex8(t: &[u8]) -> u64
 pub fn hex16(t: &[u8]) -> Digits {
     let a = hex8(part(t, 0, 8));
     let b = hex8(part(t, 8, 16));
-    if a < 4294967296 {
-        if b < 4294967296 {
-            return Digits {
-                ok: true,
-                bits: a * 4294967296 + b,
-            };
-        }
+    if a < 4294967296 && b < 4294967296 {
+        return Digits {
+            ok: true,
+            bits: a * 4294967296 + b,
+        };
     }
     Digits { ok: false, bits: 0 }
 }

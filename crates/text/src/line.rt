@@ -54,7 +54,7 @@ pub struct EntriesRead {
 }
 
 impl Cursor {
-    pub fn new() -> Cursor {
+    fn new() -> Cursor {
         Cursor {
             at: 0,
             words: 0,
@@ -63,10 +63,10 @@ impl Cursor {
         }
     }
 
-    pub fn wrong(self, fault: Fault) -> Cursor {
+    fn wrong(self, fault: Fault) -> Cursor {
         Cursor {
             ok: false,
-            fault: fault,
+            fault,
             ..self
         }
     }
@@ -93,7 +93,7 @@ pub fn next(n: u64) -> u64 {
 fn begin(text: &[u8], c: Cursor) -> Cursor {
     let at = words::skip_blanks(text, c.at);
     Cursor {
-        at: at,
+        at,
         words: next(c.words),
         ok: true,
         fault: Fault::Command,
@@ -244,7 +244,7 @@ pub fn index(text: &[u8], c: Cursor, limit: u64, fault: Fault) -> IndexRead {
     let value = digits::decimal(word(text, b));
     if value < limit {
         return IndexRead {
-            value: value,
+            value,
             next: behind_word(text, b),
         };
     }
@@ -260,7 +260,7 @@ pub fn flag(text: &[u8], c: Cursor) -> FlagRead {
     let next = read.next;
     FlagRead {
         value: read.value == 1,
-        next: next,
+        next,
     }
 }
 

@@ -2,7 +2,7 @@
 // what finds no room is left out.
 use crate::patterns;
 
-pub fn byte(out: &mut [u8], n: usize, b: u8) -> usize {
+pub(crate) fn byte(out: &mut [u8], n: usize, b: u8) -> usize {
     if n < out.len() {
         out[n] = b;
         return n + 1;
