@@ -33,13 +33,20 @@ pub fn text(out: &mut [u8], n: usize, fault: Fault, surfaces: u64, paths: u64) -
     }
 }
 
-// The faults that are no word's own.
+// The faults of a line that has other words than it should.
 fn rest(out: &mut [u8], n: usize, fault: Fault) -> usize {
     match fault {
         Fault::Eta => output::text(out, n, b"the word eta is missing\n"),
         Fault::K => output::text(out, n, b"the word k is missing\n"),
         Fault::Short => output::text(out, n, b"the line ends too soon\n"),
         Fault::More => output::text(out, n, b"the line goes on\n"),
+        _ => unknown(out, n, fault),
+    }
+}
+
+// The faults of a line that speaks of what is not there.
+fn unknown(out: &mut [u8], n: usize, fault: Fault) -> usize {
+    match fault {
         Fault::NoSurface => output::text(out, n, b"the surface is not made\n"),
         Fault::NoPath => output::text(out, n, b"the path is not started\n"),
         _ => output::text(out, n, b"unknown command\n"),
