@@ -71,9 +71,7 @@ fn measure_of(one_direction: bool) -> Measure {
 
 fn measure_on(surface: Surface, eta: &[f64], leading: f64) -> Measure {
     let roughness = surface.roughness;
-    let facets = Ggx {
-        roughness: roughness,
-    };
+    let facets = Ggx { roughness };
     let kind = surface.kind;
     match kind {
         Kind::Metal => measure_of(facets.is_delta()),
@@ -284,7 +282,7 @@ fn bounce_of(w: &[f64], backface: bool) -> Bounce {
     Bounce {
         wo: vec3(w, 0),
         normal: vec3(w, 3),
-        backface: backface,
+        backface,
         u: store::at(w, 6),
         disk: store::at(w, 7),
         c: store::at(w, 8),

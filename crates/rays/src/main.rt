@@ -59,7 +59,7 @@ fn line_answer(
     let used = s.used;
     if s.skipping {
         return Answered {
-            used: used,
+            used,
             outcome: Outcome::Nothing,
         };
     }
@@ -77,7 +77,7 @@ fn with_answer(s: Stream, a: Answered) -> Stream {
     let tally = before.plus(outcome);
     Stream {
         used: a.used,
-        tally: tally,
+        tally,
         ..s
     }
 }
@@ -147,13 +147,11 @@ fn read_behind(fd: i32, buf: &mut [u8], have: usize) -> isize {
 // The stream with `n` bytes more.
 fn longer(buf: &[u8], s: Stream, n: usize) -> Stream {
     let have = s.have;
-    if have <= buf.len() {
-        if n <= buf.len() - have {
-            return Stream {
-                have: have + n,
-                ..s
-            };
-        }
+    if have <= buf.len() && n <= buf.len() - have {
+        return Stream {
+            have: have + n,
+            ..s
+        };
     }
     s
 }
@@ -208,7 +206,7 @@ fn next_line(fd: i32, buf: &mut [u8], s: Stream, out: &mut [u8]) -> Stream {
         let r = with_room(out, s);
         return Stream {
             ready: true,
-            end: end,
+            end,
             ..r
         };
     }

@@ -12,9 +12,10 @@ pub const COLOR: usize = 4;
 
 pub const PATH: usize = 2 * COLOR;
 
-// A surface's numbers: roughness x and y, the kind, eta, k.
+// How many entries a spectrum has.
 pub const ENTRIES: usize = DenseSpectrum::SAMPLES;
 
+// A surface's numbers: roughness x and y, the kind, eta, k.
 pub const SURFACE: usize = ETA + 2 * ENTRIES;
 
 // Where a surface's eta and k begin.

@@ -1,6 +1,6 @@
 // The surfaces and the paths that a job holds, in flat arrays that `main` lends.
 //
-//   surface i   sizes::SURFACE numbers: roughness x and y, 0 for metal or 1 for glass, eta, k
+//   surface i   sizes::SURFACE numbers: roughness x and y, the kind, eta, k
 //   path i      sizes::PATH numbers: wavelengths and powers
 //
 // Zeros are a surface that was not made, whose roughness is never 0, and a path that was not started,
@@ -12,6 +12,7 @@ use optics::color::Color;
 use optics::microfacet::Kind;
 use optics::microfacet::Surface;
 use path::records::Path;
+use text::patterns;
 ghost use Prim.Native.Nat.{_≤_};
 ghost use mathlib.Core.Path.{_≡_};
 ghost use lib.Seq.{sets};
@@ -106,10 +107,8 @@ pub fn keep_path(paths: &mut [f64], i: u64, p: Path)
 
 // The part from `a` to `b`, empty where there is none.
 pub fn part(values: &[f64], a: usize, b: usize) -> &[f64] {
-    if a <= b {
-        if b <= values.len() {
-            return &values[a..b];
-        }
+    if a <= b && b <= values.len() {
+        return &values[a..b];
     }
     &values[..0]
 }
@@ -138,18 +137,13 @@ pub fn k(place: &[f64]) -> &[f64] {
     part(place, sizes::K, sizes::SURFACE)
 }
 
+// A kind is kept as the number whose bits are its code.
 fn kind_of(number: f64) -> Kind {
-    if number == 1.0 {
-        return Kind::Glass;
-    }
-    Kind::Metal
+    Kind::of_code(patterns::bits(number))
 }
 
 fn kind_number(kind: Kind) -> f64 {
-    match kind {
-        Kind::Metal => 0.0,
-        Kind::Glass => 1.0,
-    }
+    patterns::of_bits(kind.code())
 }
 
 // The surface, without its spectra.
@@ -163,14 +157,19 @@ pub fn surface(place: &[f64]) -> Surface {
     }
 }
 
-// Keeps a surface with its spectra, which have sizes::ENTRIES entries each.
+// Keeps a surface with the sizes::ENTRIES entries of each of its spectra; whatever it is handed, no other
+// surface is written to.
 pub fn keep_surface(surfaces: &mut [f64], i: u64, surface: Surface, eta: &[f64], k: &[f64]) {
     let from = surface_place(i);
     let kind = surface.kind;
     let head = [surface.roughness.x, surface.roughness.y, kind_number(kind)];
     put(surfaces, from, &head);
-    put(surfaces, from + sizes::ETA as u32, eta);
-    put(surfaces, from + sizes::K as u32, k);
+    put(
+        surfaces,
+        from + sizes::ETA as u32,
+        part(eta, 0, sizes::ENTRIES),
+    );
+    put(surfaces, from + sizes::K as u32, part(k, 0, sizes::ENTRIES));
 }
 
 // One number for every entry.
