@@ -77,12 +77,12 @@ pub fn replay(fd: i32, number: u64, w: &[f64; 30]) -> bool {
             let reflection = words::is_true(wh.x);
             same_float(fd, dielectric::pdf(v, u, reflection, mfd, wh.y, wh.z))
         }
-        _ => fresnel(fd, number, w),
+        _ => at_facet(fd, number, w),
     }
 }
 
-// Fresnel terms.
-fn fresnel(fd: i32, number: u64, w: &[f64; 30]) -> bool {
+// At one facet, whatever the roughness: Fresnel terms, whether it is seen, a mirror and a bend.
+fn at_facet(fd: i32, number: u64, w: &[f64; 30]) -> bool {
     let x = words::vec3(w, 0);
     let y = words::vec3(w, 3);
     match number {

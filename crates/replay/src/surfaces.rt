@@ -52,13 +52,13 @@ pub fn replay(fd: i32, number: u64, w: &[f64; 30], eta: &[f64], k: &[f64]) -> bo
         955 => same_float_answer(fd, counter::g(s, eta, k, v, u, words::vec3(w, 9))),
         956 => same_float_answer(fd, counter::d(s, eta, k, v)),
         957 => same_float_answer(fd, counter::disney_diffuse(s, eta, k, v.x, v.y, v.z)),
-        _ => scattered(fd, number, s, w, eta, k),
+        _ => other_calls(fd, number, s, w, eta, k),
     }
 }
 
-// Fresnel terms, the sampler and the density. The sampler has its random numbers where others have the
-// vector u.
-fn scattered(fd: i32, number: u64, s: Surface, w: &[f64; 30], eta: &[f64], k: &[f64]) -> bool {
+// The other calls on a whole surface: Fresnel terms, the sampler and the density. The sampler has its
+// random numbers where others have the vector u.
+fn other_calls(fd: i32, number: u64, s: Surface, w: &[f64; 30], eta: &[f64], k: &[f64]) -> bool {
     let v = words::vec3(w, 3);
     let u = words::vec3(w, 6);
     match number {

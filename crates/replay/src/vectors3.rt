@@ -11,7 +11,7 @@ pub fn replay(fd: i32, number: u64, w: &[f64; 30]) -> bool {
     let a = words::vec3(w, 0);
     let b = words::vec3(w, 3);
     match number {
-        301 => same_vec3(fd, a),
+        301 => same_vec3(fd, Vec3::new(a.x, a.y, a.z)),
         302 => same_vec3(fd, Vec3::splat(a.x)),
         303 => same_vec2(fd, Vec3::truncate(a)),
         304 => same_float(fd, Vec3::length(a)),
