@@ -3,8 +3,12 @@
 use floats::float;
 ghost use mathlib.Core.Path.{_≡_};
 ghost use Prim.Native.Nat.{_-_};
-ghost use lib.Ieee.{nan, eq};
+ghost use mathlib.Core.Bool.{false};
+ghost use lib.Dec.{T};
+ghost use lib.IntN.{pos};
+ghost use lib.Ieee.{nan, fin, binary64, ofInt, lt, eq};
 ghost use lib.ListN.{getD};
+ghost use Rattle.floats.specs.Float.{f1};
 ghost use Rattle.numbers.specs.GridPoint.{gridPoint, sampleFrom};
 ghost use Rattle.numbers.specs.DenseSpectrum.{ceiling, interpolate, sampleOne, every, isConstant, allWithin, allFinite, isTable, isWavelength, isLookupWavelength};
 
@@ -71,18 +75,66 @@ impl GridPoint {
         ensures { λ r. ⌜ r ≡ gridPoint lambda ⌝ }
     {
         let b1 = ceiling((lambda - LAMBDA_MIN) / DenseSpectrum::STEP);
-        let l1 = LAMBDA_MIN + DenseSpectrum::STEP * std::num::nearest_u64_to_f64(b1);
+        let l1 = LAMBDA_MIN + DenseSpectrum::STEP * b1.value;
         GridPoint {
             ended: lambda == 0.0,
             exact: lambda == l1,
-            upper: b1,
+            upper: b1.number,
             weight: (lambda - (l1 - DenseSpectrum::STEP)) / DenseSpectrum::STEP,
         }
     }
 }
 
+// 2 ^ 52, from where on doubles are the whole numbers; its pattern; and a half less.
+const WHOLE: f64 = 4503599627370496.0;
+
+const WHOLE_BITS: u64 = 0x4330000000000000;
+
+const WHOLE_LESS_HALF: f64 = 4503599627370495.5;
+
+// A whole number, and its double.
+struct Whole {
+    number: u64,
+    value: f64,
+}
+
 // The least whole number from `x` up.
-fn ceiling(x: f64) -> u64
+fn ceiling(x: f64) -> Whole
+    ensures { λ r. ⌜ (r .number ≡ ceiling x) × (r .value ≡ ofInt binary64 (pos (ceiling x))) ⌝ }
+{
+    if 1.0 < x {
+        if x < 2251799813685248.0 {
+            return small_ceiling(x);
+        }
+    }
+    let number = any_ceiling(x);
+    Whole {
+        number,
+        value: std::num::nearest_u64_to_f64(number),
+    }
+}
+
+// The same above 1 and below 2 ^ 51, where nearly every wavelength has it: with no cast, for Rattle's are
+// slow. The sum reaches WHOLE, so that it is rounded to a whole number: of x less a half that is the one
+// below x, and where x is whole it is x or the one before.
+fn small_ceiling(x: f64) -> Whole
+    requires { ⌜ T (lt f1 x) × T (lt x (fin false 1 (pos 51))) ⌝ }
+    ensures { λ r. ⌜ (r .number ≡ ceiling x) × (r .value ≡ ofInt binary64 (pos (ceiling x))) ⌝ }
+{
+    let near = x + WHOLE_LESS_HALF;
+    let number = f64::to_bits(near) - WHOLE_BITS;
+    let value = near - WHOLE;
+    if value < x {
+        return Whole {
+            number: number + 1,
+            value: value + 1.0,
+        };
+    }
+    Whole { number, value }
+}
+
+// The same of any value.
+fn any_ceiling(x: f64) -> u64
     ensures { λ r. ⌜ r ≡ ceiling x ⌝ }
 {
     if -1.0 < x {

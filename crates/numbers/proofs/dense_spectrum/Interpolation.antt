@@ -4,30 +4,31 @@
 -- A wavelength from 256 on is a multiple of 2 ^ -44, so one that is above a grid point is that far above, and the quotient by the step does not round down onto the point's index.
 use mathlib.Core.Path.{_≡_, refl, sym, ap, _∙_, subst}
 use mathlib.Core.Logic.{inl, inr}
-use mathlib.Core.Bool.{Bool·beq, Bool, true, false, not, cond, true≢false, _&&_, _||_}
+use mathlib.Core.Bool.{Bool·beq, Bool, true, false, not, cond, _||_}
 use mathlib.Core.List.{List}
 use Prim.Native.Nat.{ℕ, zero, suc, _+_, _-_, _*_, _/_, _^_, _≤_, _<_}
-use native.Mathlib.Nat.{le-refl, le-trans, le-of-eq, le-of-lt, lt-of-le-of-lt, lt-of-lt-of-le, lt-irrefl, not-le-of-lt, mul-le-mul-right, mul-le-mul-left, le-of-mul-le-mul-right, lt-of-mul-lt-mul-right, mul-pos, mul-comm, mul-assoc, div-lt-iff-lt-mul, lt-div-mul-add, div-mul-le-self, min-eq-left, one-mul, zero-mul, mul-zero, le-antisymm}
+use native.Mathlib.Nat.{le-refl, le-trans, le-of-eq, le-of-lt, lt-of-le-of-lt, lt-of-lt-of-le, lt-irrefl, not-le-of-lt, mul-le-mul-right, mul-le-mul-left, le-of-mul-le-mul-right, lt-of-mul-lt-mul-right, mul-pos, mul-comm, mul-assoc, div-lt-iff-lt-mul, one-mul, zero-mul, mul-zero, le-antisymm}
 use native.Mathlib.Omega.{arith}
-use lib.Dec.{T, eqb, ltb, ltb→lt, lt→ltb, nltb→le, lit≤, lit<}
-use lib.IntN.{ℤ, pos}
+use lib.Dec.{T, eqb, lit≤, lit<}
+use lib.IntN.{pos}
 use lib.ListN.{length}
 use lib.Pow.{pow-add, pow-pos, pow-mono}
-use lib.Ieee.{Float, nan, inf, fin, Format, binary64, up, down, size, ofInt, toUnsigned, round, le, lt, eq, fits}
+use lib.Ieee.{Float, fin, Format, binary64, up, down, size, ofInt, round, le, lt, eq, fits}
 use lib.Ieee.Digits.{size-le, back}
-use lib.Ieee.Fits.{and-i, and-l, and-r, eq→eqb, down-pos, add-fits, div-fits}
+use lib.Ieee.Fits.{and-i, and-l, and-r, eq→eqb, add-fits, div-fits}
 use lib.Ieee.Order.{drop, kept}
 use lib.Ieee.Scale.{finite}
 use Rattle.floats.proofs.Rounding.{rnd, Near, rnd-fix, rnd-mono, rnd-same, rnd-err, rnd-whole, below-or-from, size-above}
-use Rattle.floats.proofs.Rounding.Units.{U, O, U-is, U-pos, U-O, Is, is-of, mag, nn, either, round-units, unique, le-finite, over, over'}
+use Rattle.floats.proofs.Rounding.Units.{U, O, U-is, U-pos, U-O, Is, is-of, mag, either, unique, le-finite}
 use Rattle.floats.proofs.Rounding.NonNegative.{Fine, Ext, unit-ext, U-held, share-of, fine-under, inside, mul-ext, div-ext, sub-fine, add-ext, fine-pos, unit-fine}
 use Rattle.floats.proofs.Rounding.Shares.{rnd-mono1}
 use Rattle.floats.proofs.Rounding.Error.{Fin, P, N, M, M/2, le-parts, mul-rnd, unscale, sum-mag, one-side}
 use Rattle.numbers.proofs.vec3.UnitVector.{sum-err}
 use Rattle.floats.proofs.Rounding.Sizes.{fine-N, pos-of, zero-N}
 use Rattle.numbers.proofs.dense_spectrum.Every.{entry-every}
-use Rattle.floats.specs.Float.{_⊕_, _⊖_, _⊗_, _⊘_, f0, f1, f-1, decimal, within}
-use Rattle.numbers.specs.DenseSpectrum.{lambdaMin, lambdaMax, denseSamples, denseStep, terminated, ceiling, entry, interpolate, upperPoint, upperLambda, upperWeight, sampleOneAt, sampleOne, allWithin, inTable, isWavelength}
+use Rattle.numbers.proofs.dense_spectrum.WholePart.{held-whole, whole-is, times, ceiling-is}
+use Rattle.floats.specs.Float.{_⊕_, _⊖_, _⊗_, _⊘_, f0, f1, decimal, within}
+use Rattle.numbers.specs.DenseSpectrum.{lambdaMin, lambdaMax, denseSamples, denseStep, terminated, entry, interpolate, upperPoint, upperLambda, upperWeight, sampleOneAt, sampleOne, allWithin, inTable, isWavelength}
 
 abbrev B : Format
 B = binary64
@@ -54,9 +55,6 @@ step-pos (suc s) n g = omega arith
 
 span : (s n k : ℕ) → Grid s n → k ≤ n → s * k ≤ 470
 span s n k g h = le-trans (mul-le-mul-left s h) (le-of-eq (g .whole))
-
-times : (x y u : ℕ) → x < y → 0 < u → x * u < y * u
-times x y u h p = let m = mul-le-mul-right u h in omega arith
 
 -- ---- the spacing of wavelengths: one from 256 on is a multiple of G, 2 ^ -44
 G : ℕ
@@ -97,11 +95,7 @@ next L N h g l =
         let b : a < t = lt-of-mul-lt-mul-right G (subst (λ (z : ℕ). z < t * G) e l) in
         omega (arith, mul-le-mul-right G b)
 
--- whole numbers, and one step of G above them, are held
-held-whole : (N : ℕ) → N < 9007199254740992 → rnd 53 (N * U) 1 ≡ N * U
-unfolding U
-held-whole N h = rnd-fix 53 N 1074 h
-
+-- one step of G above a whole number is held
 held-G : (q : ℕ) → q < 9007199254740992 → rnd 53 (q * G) 1 ≡ q * G
 unfolding G
 held-G q h = rnd-fix 53 q 1030 h
@@ -273,85 +267,6 @@ pub wave-in-table : (w : Float) → T (isWavelength w) → T (inTable w)
 unfolding isWavelength inTable
 wave-in-table w h = h
 
--- ---- the least whole number from q up
-whole-is : (k : ℕ) → k ≤ 470 → Is (ofInt binary64 (pos k)) false (k * U)
-unfolding ofInt
-whole-is k h =
-    let held = held-whole k (far k h) in
-    let r = round-units false k 1 (lt-of-le-of-lt (le-of-eq held) (whole-O k (le-trans h (lit≤ tt)))) in
-    subst (λ (z : ℕ). Is (round B false k 1) false z) held r
-
--- `<` by units, of values that are not negative
-lt-units : (x y : Float) (a b : ℕ) → Is x false a → Is y false b → (T (lt x y) → a < b) × (T (not (lt x y)) → b ≤ a)
-unfolding lt
-lt-units (fin true m e) y a b i k = absurd (true≢false (i .0))
-lt-units (fin false m e) (fin true n d) a b i k = absurd (true≢false (k .0))
-lt-units (fin false m e) (fin false n d) a b i k =
-    let x = m * up e * down d in
-    let y = n * up d * down e in
-    let dd = down e * down d in
-    let dd0 = mul-pos (down-pos e) (down-pos d) in
-    let ex : x * U ≡ a * dd = over (m * up e) a (down e) (down d) (i .1) in
-    let ey : y * U ≡ b * dd = over' (n * up d) b (down e) (down d) (k .1) in (
-      λ (t : T (ltb x y)). lt-of-mul-lt-mul-right dd (lt-of-le-of-lt (le-of-eq (sym ex)) (lt-of-lt-of-le (times x y U (ltb→lt x y t) U-pos) (le-of-eq ey))),
-      λ (t : T (not (ltb x y))). le-of-mul-le-mul-right {k = dd} (le-trans (le-of-eq (sym ey)) (le-trans (mul-le-mul-right U (nltb→le x y t)) (le-of-eq ex))) dd0,
-    )
-
-lt-negative : (x : Float) (a m : ℕ) (e : ℤ) → Is x false a → T (lt x (fin true m e)) → ⊥
-unfolding lt
-lt-negative (fin true n d) a m e i t = absurd (true≢false (i .0))
-lt-negative (fin false n d) a m e i t = t
-
--- the whole part c of a / d, where a / d is n / U
-floor-low : (n a c d u : ℕ) → a * u ≡ n * d → c * d ≤ a → 0 < d → c * u ≤ n
-floor-low n a c d u v h p = le-of-mul-le-mul-right {k = d} (omega (arith, mul-le-mul-right u h)) p
-
-floor-high : (n a c d u : ℕ) → a * u ≡ n * d → a < c * d + d → 0 < u → n < c * u + u
-floor-high n a c d u v h p =
-    lt-of-mul-lt-mul-right d (omega (arith, times a (c * d + d) u h p))
-
-ceiling-is : (q : Float) (n : ℕ) → Fine q n → n ≤ 470 * U → (n ≤ ceiling q * U) × (ceiling q * U < n + U)
-unfolding ceiling lt toUnsigned
-ceiling-is nan n h l = absurd (h .1)
-ceiling-is (inf s) n h l = absurd (h .1)
-ceiling-is (fin true m e) n h l =
-    let q = fin true m e in
-    let z : n ≡ 0 = subst (λ (b : Bool). nn b n ≡ 0) (sym (h .1 .0)) (h .2) in
-    let o = ofInt binary64 (pos 0) in
-    let k-is = none (lt f-1 q && lt q (fin false 1 (pos 64))) (lt o q) (lt-negative o (0 * U) m e (whole-is 0 (lit≤ tt))) in
-    subst (λ (k : ℕ). (n ≤ k * U) × (k * U < n + U)) (sym k-is)
-    (le-trans (le-of-eq z) (omega arith), lt-of-le-of-lt (le-of-eq (zero-mul U)) (lt-of-lt-of-le U-pos (omega arith)))
-  where
-    none : (b c : Bool) → (T c → ⊥) → cond b (cond c (0 + 1) 0) 0 ≡ 0
-    none false c f = refl
-    none true false f = refl
-    none true true f = absurd (f tt)
-ceiling-is (fin false m e) n h l =
-    let q = fin false m e in
-    let a = m * up e in
-    let d = down e in
-    let d0 = down-pos e in
-    let c = a / d in
-    let v : a * U ≡ n * d = h .1 .1 in
-    let low = floor-low n a c d U v (div-mul-le-self a d) d0 in
-    let high = floor-high n a c d U v (lt-div-mul-add d0) U-pos in
-    let few : c ≤ 470 = le-of-mul-le-mul-right {k = U} (le-trans low l) U-pos in
-    let order = lt-units (ofInt binary64 (pos c)) q (c * U) n (whole-is c few) (refl, v) in
-    let above : T (lt f-1 q) = lt→ltb 0 (1 * 1 * d + a * 1) (omega arith) in
-    let below : T (lt q (fin false 1 (pos 64))) = lt→ltb (a * 1) (1 * 2 ^ 64 * d) (under a c d few (lt-div-mul-add d0)) in
-    let both = and-i (lt f-1 q) (lt q (fin false 1 (pos 64))) above below in
-    subst (λ (k : ℕ). let t = cond (lt f-1 q && lt q (fin false 1 (pos 64))) (cond (lt (ofInt binary64 (pos k)) q) (k + 1) k) 0 in (n ≤ t * U) × (t * U < n + U))
-    (sym (min-eq-left (le-trans few (lit≤ tt))))
-    (chosen (lt f-1 q && lt q (fin false 1 (pos 64))) (lt (ofInt binary64 (pos c)) q) c n both (order .0) (order .1) low high)
-  where
-    under : (a c d : ℕ) → c ≤ 470 → a < c * d + d → a * 1 < 1 * 2 ^ 64 * d
-    under a c d h k = let m = mul-le-mul-right d h in omega arith
-
-    chosen : (b t : Bool) (c n : ℕ) → T b → (T t → c * U < n) → (T (not t) → n ≤ c * U) → c * U ≤ n → n < c * U + U
-        → let k = cond b (cond t (c + 1) c) 0 in (n ≤ k * U) × (k * U < n + U)
-    chosen true true c n b f g l h = let above = f tt in (omega arith, omega arith)
-    chosen true false c n b f g l h = (g tt, omega (arith, U-pos))
-
 -- ---- the grid points
 -- the wavelength of the grid point k
 abbrev gridPoint : Float → ℕ → Float
@@ -389,7 +304,7 @@ module _ (step : Float) (s n : ℕ) (g : Grid s n) (i : Is step false (s * U)) w
       let o = ofInt binary64 (pos k) in
       let sk = span s n k g h in
       let e : rnd 53 (s * U * (k * U) * U) (U * U) ≡ s * k * U = rnd-same 53 (s * U * (k * U) * U) (U * U) (s * k * U) 1 (lit< tt) (mul-pos U-pos U-pos) (lit< tt) (omega arith) ∙ held-whole (s * k) (far (s * k) sk) in
-      let x = mul-ext step o (s * U) (k * U) step-fine (false, whole-is k (omega (arith, mul-le-mul-right k s0)), refl) in
+      let x = mul-ext step o (s * U) (k * U) step-fine (false, whole-is k (far k (omega (arith, mul-le-mul-right k s0))), refl) in
       fine-under (step ⊗ o) (s * k * U) (subst (λ (z : ℕ). Ext (step ⊗ o) z) e x) (whole-O (s * k) (le-trans sk (lit≤ tt)))
 
   point-fine : (k : ℕ) → k ≤ n → Fine (gridPoint step k) ((360 + s * k) * U)
@@ -462,7 +377,7 @@ module _ (step : Float) (s n : ℕ) (g : Grid s n) (i : Is step false (s * U)) w
 
     k-is : (quotient s L ≤ k * U) × (k * U < quotient s L + U)
     unfolding upperPoint
-    k-is = ceiling-is q (quotient s L) q-fine (le-trans q-le (mul-le-mul-right U n-le))
+    k-is = ceiling-is q (quotient s L) q-fine (le-trans q-le (mul-le-mul-right U (le-trans n-le (lit≤ tt))))
 
     k-le : k ≤ n
     k-le = omega (arith, lt-of-mul-lt-mul-right U (lt-of-lt-of-le (k-is .1) (next-up (quotient s L) n U q-le)))

@@ -1,23 +1,19 @@
--- `numbers::dense_spectrum::ceiling` meets its contract: the tests are what the cast asks of its argument, and one more than the whole part still fits.
-use lib.Ieee.{binary64, fits, neg, ofBits}
+-- `numbers::dense_spectrum::ceiling` meets its contract: by the test that is taken, and what the call for it gives.
+use mathlib.Core.Path.{ap, _∙_}
+use Prim.Native.Nat.{ℕ}
+use lib.IntN.{pos}
+use lib.Ieee.{binary64, ofBits, ofInt}
 use borrow.Author.Needs.{needs}
-use Rattle.numbers.specs.DenseSpectrum.{ceiling}
-use Rattle.numbers.proofs.dense_spectrum.WholePart.{room}
 use denote.Floats.{passes}
 use Rattle.numbers.proofs.dense_spectrum.ceiling.Statement.{statement}
 use Rattle.numbers.proofs.dense_spectrum.ceiling.Tie as tie
 
-add-result : tie.Need-add-result
+small-ceiling-requires : tie.Need-small-ceiling-requires
 unfolding ofBits
-add-result c =
-    let x = c .before .before .before .before .before .args .x in
-    record { fits = rw (c .before .before .truncating-f64-to-u64 .ensures) (room x (passes (fits binary64 x) (c .before .before .before .before .before .good .0 .1)) (passes _ (c .before .before .before .if2 .taken))) }
+small-ceiling-requires c κs = (passes _ (c .before .if1 .taken), passes _ (c .if2 .taken))
+
+returns-2 : tie.Need-returns-2
+returns-2 c = let number = c .before .any-ceiling .ensures in (number, c .nearest-u64-to-f64 .ensures ∙ ap (λ (z : ℕ). ofInt binary64 (pos z)) number)
 
 pub ceiling-spec : {M : Type 1} → statement M
-unfolding neg ofBits ceiling
-ceiling-spec = tie.close (tie.spec (λ c κs. (passes _ (c .before .if1 .taken), passes _ (c .if2 .taken))) (λ c κs. search needs) add-result
-    (λ c. let p = c .before .before in
-    rw (p .before .before .if1 .taken, p .before .if2 .taken, ← p .truncating-f64-to-u64 .ensures, ← c .before .nearest-u64-to-f64 .ensures, c .if3 .taken))
-    (λ c. let p = c .before .before in
-    rw (p .before .before .if1 .taken, p .before .if2 .taken, ← p .truncating-f64-to-u64 .ensures, ← c .before .nearest-u64-to-f64 .ensures, c .if3 .left))
-    (λ c. rw (c .before .if1 .taken, c .if2 .left)) (λ c. rw (c .if1 .left)))
+ceiling-spec = tie.close (tie.spec small-ceiling-requires (λ c. search needs) (λ c κs. search needs) (λ c κs. search needs) returns-2)

@@ -8,7 +8,7 @@ use Rattle.numbers.proofs.dense_spectrum.GridPoint.new.Tie as tie
 
 returns : tie.Need-returns
 unfolding gridPoint gridPointAt upperPoint upperLambda upperWeight ofBits
-returns c = rw (← c .before .ceiling .ensures, ← c .nearest-u64-to-f64 .ensures)
+returns c = let b1 = c .before .ceiling .ensures in rw (← b1 .1, ← b1 .0)
 
 pub new-spec : {M : Type 1} → statement M
-new-spec = tie.close (tie.spec (λ c κs. search needs) (λ c κs. search needs) returns)
+new-spec = tie.close (tie.spec (λ c κs. search needs) returns)
