@@ -12,7 +12,7 @@ use Prim.Native.Nat.{ℕ, _+_, _*_, _≤_, _<_}
 use native.Mathlib.Nat.{le-trans, le-of-eq, lt-of-le-of-lt, mul-le-mul-right, le-of-mul-le-mul-right, mul-comm, mul-assoc, mul-le-mul-left}
 use native.Mathlib.Omega.{arith}
 use lib.Dec.{T, lit≤, lit<}
-use lib.Ieee.{Float, nan, inf, fin, Format, binary64, unlike, neg, mul, lt, eq, fits}
+use lib.Ieee.{Float, nan, inf, fin, Format, binary64, unlike, neg, lt, eq, fits}
 use lib.Ieee.Fits.{add-fits, div-fits}
 use Rattle.floats.proofs.Rounding.{rnd}
 use Rattle.floats.proofs.Rounding.Units.{U, O, U-pos, Is, is-of, sign, mag, div-is, round-units, rnd-U, unique}
@@ -30,7 +30,7 @@ use Rattle.numbers.specs.declared.vec3.Vec3.{Vec3}
 use Rattle.optics.specs.Facets.{isDelta}
 use Rattle.optics.specs.Fresnel.{indexFrom, sin2I, isTotal, cosI, meanSquare, unpolarized, frFacing, frReal, frComplex, frComplexFacing, fresnel, fAt}
 use Rattle.optics.specs.Bxdf.{direction, none, total, mirrored, reflect, bent, acrossOnly, refractFacing, refract, Scattered, scattered, lost, totally, branch, conductorFrom, rest, reflects, dielectricFrom}
-use Rattle.optics.proofs.Cosine.{dot-comm}
+use Rattle.optics.proofs.Cosine.{dot-comm, sin2-abs, sin2-neg}
 use Rattle.floats.proofs.Rounding.Sizes.{Upto, widen, expression, f2-upto, neg-upto, held-power, divide, pos-of}
 use Rattle.numbers.proofs.vec3.Span.{Span, widen3, negate-span}
 use Rattle.optics.proofs.SampledNormal.{Unitary, unit-span, Local, local-span}
@@ -206,22 +206,6 @@ bent-span e c i wo n he hc hi hw hn = record {
 }
 
 -- ---- where `refract` meets total reflection, F is 1
-abs-sq : (c : Float) → abs c ⊗ abs c ≡ c ⊗ c
-unfolding mul abs
-abs-sq nan = refl
-abs-sq (inf false) = refl
-abs-sq (inf true) = refl
-abs-sq (fin false m e) = refl
-abs-sq (fin true m e) = refl
-
-neg-sq : (c : Float) → neg c ⊗ neg c ≡ c ⊗ c
-unfolding mul neg
-neg-sq nan = refl
-neg-sq (inf false) = refl
-neg-sq (inf true) = refl
-neg-sq (fin false m e) = refl
-neg-sq (fin true m e) = refl
-
 -- the cosine on its side
 abbrev facing : Bool → Float → Float
 facing b c = cond b (neg c) c
@@ -231,9 +215,8 @@ index b e = cond b (f1 ⊘ e) e
 
 -- the sine's square is the same to the last bit
 same-sin2 : (b : Bool) (c e : Float) → sin2I (facing b c) e ≡ sin2I (abs c) e
-unfolding sin2I
-same-sin2 true c e = ap (λ (m : Float). (f1 ⊖ m) ⊘ (e ⊗ e)) (neg-sq c ∙ sym (abs-sq c))
-same-sin2 false c e = ap (λ (m : Float). (f1 ⊖ m) ⊘ (e ⊗ e)) (sym (abs-sq c))
+same-sin2 true c e = sin2-neg c e ∙ sym (sin2-abs c e)
+same-sin2 false c e = sym (sin2-abs c e)
 
 pub total-is-one : (c eta : Float) → let b = lt c f0 in T (isTotal (sin2I (facing b c) (index b eta))) → frReal c eta ≡ f1
 unfolding frReal frFacing indexFrom

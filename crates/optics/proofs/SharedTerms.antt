@@ -3,17 +3,18 @@
 -- that any number does there (`metal-density`, `glass-density`).
 use mathlib.Core.Path.{_≡_, refl}
 use mathlib.Core.Bool.{Bool, true, false, cond}
-use lib.Ieee.{Float, eq}
+use lib.Ieee.{Float, neg, lt, eq}
 use Rattle.floats.specs.Float.{_⊕_, _⊘_, f0, f1}
 use Rattle.numbers.specs.SphericalUtils.{sinTheta, cosPhi, sinPhi}
-use Rattle.numbers.specs.Vec3.{dot}
+use Rattle.numbers.specs.Vec3.{negate, dot}
 use Rattle.numbers.specs.declared.vec2.Vec2.{Vec2}
 use Rattle.numbers.specs.declared.vec3.Vec3.{Vec3}
 use Rattle.optics.specs.Facets.{isDelta, lambda, chiPass, masked, g1, g, gOverG1, sampleNormalPdf}
-use Rattle.optics.specs.Bxdf.{isSmooth}
+use Rattle.optics.specs.Fresnel.{indexFrom, sin2I, cosI, frFacing, frReal, fresnel, fAt}
+use Rattle.optics.specs.Bxdf.{refractFacing, refract, Scattered, isSmooth, dielectricFrom}
 use Rattle.optics.specs.Density.{conductorHalf, conductorPdfFrom, conductorPdf, etaRatio, dielectricHalf, reflectedPdf, passedPdf, dielectricPdfFrom, dielectricPdf}
-use Rattle.optics.specs.SharedTerms.{azimuth, chiPassAt, g1At, gOverG1At, sampleNormalPdfAt, conductorPdfWith, dielectricPdfWith}
-use Rattle.optics.proofs.Cosine.{dot-comm}
+use Rattle.optics.specs.SharedTerms.{Snell, azimuth, chiPassAt, g1At, gOverG1At, sampleNormalPdfAt, snell, frRealFrom, fresnelFrom, refractFacingFrom, refractFrom, dielectricFromSnell, conductorPdfWith, dielectricPdfWith}
+use Rattle.optics.proofs.Cosine.{dot-comm, sin2-abs, sin2-neg}
 
 -- ---- the azimuth
 pub cos-phi : (w : Vec3) → cosPhi w ≡ azimuth (w .x) (sinTheta w) f1
@@ -49,6 +50,37 @@ g-over-g1-at a wo wi wh = rw (chi-pass wo wh) (go (chiPass wo wh))
     go : (chi : Bool) → cond chi (cond (eq first f0) f0 (both ⊘ first)) f0 ≡ cond (eq (cond chi first f0) f0) f0 (cond chi both f0 ⊘ cond chi first f0)
     go true = refl
     go false = refl
+
+-- ---- Snell's law; c is the cosine that is handed on, and s the law
+pub fr-real-from : (cosO eta : Float) → frRealFrom (snell cosO eta) cosO ≡ frReal cosO eta
+unfolding frRealFrom snell frReal frFacing
+fr-real-from cosO eta = rw (sin2-abs cosO (indexFrom cosO eta))
+
+pub f-at-from : (wo wh : Vec3) (eta k : Float) → (c : Float) → c ≡ dot wo wh → (s : Snell) → s ≡ snell c eta
+    → (F : Float) → F ≡ fresnelFrom s c eta k → F ≡ fAt wo wh eta k
+unfolding fresnelFrom fAt fresnel
+f-at-from wo wh eta k c ec s es F eF = rw (eF, es, ← ec, fr-real-from c eta)
+
+pub refract-from : (eta : Float) (wo n : Vec3) → refractFrom (snell (dot n wo) eta) (dot n wo) wo n ≡ refract eta wo n
+unfolding refractFrom refractFacingFrom snell indexFrom refract refractFacing
+refract-from eta wo n = go (lt c f0)
+  where
+    c : Float
+    c = dot n wo
+
+    from : Float → Snell
+    from index = record { eta = index; sin2 = sin2I c index; cos = cosI (sin2I c index) }
+
+    go : (below : Bool) → let s = from (cond below (f1 ⊘ eta) eta) in
+        cond below (refractFacingFrom s (neg c) wo (negate n)) (refractFacingFrom s c wo n)
+        ≡ cond below (refractFacing (f1 ⊘ eta) (neg c) wo (negate n)) (refractFacing eta c wo n)
+    go true = rw (sin2-neg c (f1 ⊘ eta))
+    go false = refl
+
+pub dielectric-from-snell : (eta F u : Float) (wo wh : Vec3) → (c : Float) → c ≡ dot wo wh → (s : Snell) → s ≡ snell c eta
+    → (r : Scattered) → r ≡ dielectricFromSnell s c F u wo wh → r ≡ dielectricFrom eta F u wo wh
+unfolding dielectricFromSnell dielectricFrom
+dielectric-from-snell eta F u wo wh c ec s es r er = rw (er, es, ec, dot-comm wo wh, refract-from eta wo wh)
 
 -- ---- the densities
 pub normal-density : (a : Vec2) (wh wo : Vec3) → sampleNormalPdfAt a (lambda a wo) (dot wo wh) wh wo ≡ sampleNormalPdf a wh wo

@@ -1,14 +1,16 @@
--- The forms in which a term that is needed twice is computed once and handed on: the sine of the polar angle, wo · wh, and Λ(wo). Definitions only.
--- From the term itself each is its formula of Facets.antt or Density.antt, by the laws of proofs/SharedTerms.antt.
-use mathlib.Core.Bool.{Bool, cond}
-use lib.Ieee.{Float, lt, eq}
+-- The forms in which a term that is needed twice is computed once and handed on: the sine of the polar angle, wo · wh, Λ(wo), and Snell's law. Definitions only.
+-- From the term itself each is its formula of Facets.antt, Fresnel.antt, Bxdf.antt or Density.antt, by the laws of proofs/SharedTerms.antt.
+use mathlib.Core.Bool.{Bool, true, false, cond}
+use lib.Ieee.{Float, neg, lt, eq}
 use Rattle.floats.specs.Float.{_⊕_, _⊗_, _⊘_, f0, f1, f-1, epsilon, max, abs, clamp, signum}
 use Rattle.numbers.specs.SphericalUtils.{cosTheta}
-use Rattle.numbers.specs.Vec3.{dot}
+use Rattle.numbers.specs.Vec3.{negate, dot}
 use Rattle.numbers.specs.declared.{vec2.Vec2.Vec2, vec3.Vec3.Vec3}
 use Rattle.optics.specs.Facets.{isDelta, lambda, masked, d}
-use Rattle.optics.specs.Bxdf.{isSmooth}
+use Rattle.optics.specs.Fresnel.{indexFrom, sin2I, isTotal, cosI, unpolarized, frComplex}
+use Rattle.optics.specs.Bxdf.{Outgoing, total, reflect, bent, acrossOnly, Scattered, branch, isSmooth, reflects}
 use Rattle.optics.specs.Density.{conductorHalf, conductorPdfFrom, etaRatio, dielectricHalf, dielectricPdfFrom}
+pub use Rattle.optics.specs.declared.microfacet.Snell.{Snell}
 
 -- ---- from the sine of the polar angle: cosPhi by the part along x, sinPhi by that along y; `pole` where the sine is 0
 unfoldable pub azimuth : Float → Float → Float → Float
@@ -33,6 +35,30 @@ gOverG1At a lambdaWo woDotWh wo wi wh =
 unfoldable pub sampleNormalPdfAt : Vec2 → Float → Float → Vec3 → Vec3 → Float
 sampleNormalPdfAt a lambdaWo woDotWh wh wo =
     max (g1At lambdaWo woDotWh wo wh ⊗ d a wh ⊗ abs woDotWh ⊘ abs (cosTheta wo)) f0
+
+-- ---- from Snell's law, which Fresnel's term and the bend have in common: the index on wo's side, sin² θi and cos θi, by cos θo, which is wo · wh
+unfoldable pub snell : Float → Float → Snell
+snell cosO eta =
+    let index = indexFrom cosO eta in
+    let sin2 = sin2I cosO index in
+    record { eta = index; sin2 = sin2; cos = cosI sin2 }
+
+unfoldable pub frRealFrom : Snell → Float → Float
+frRealFrom s cosO = cond (isTotal (s .sin2)) f1 (unpolarized (s .eta) (abs cosO) (s .cos))
+
+unfoldable pub fresnelFrom : Snell → Float → Float → Float → Float
+fresnelFrom s cosO eta k = cond (eq k f0) (cond (eq eta f0) f0 (frRealFrom s cosO)) (frComplex cosO eta k)
+
+unfoldable pub refractFacingFrom : Snell → Float → Vec3 → Vec3 → Outgoing
+refractFacingFrom s cosO wo n = cond (isTotal (s .sin2)) total (acrossOnly wo (bent (s .eta) cosO (s .cos) wo n))
+
+unfoldable pub refractFrom : Snell → Float → Vec3 → Vec3 → Outgoing
+refractFrom s cosO wo n =
+    cond (lt cosO f0) (refractFacingFrom s (neg cosO) wo (negate n)) (refractFacingFrom s cosO wo n)
+
+unfoldable pub dielectricFromSnell : Snell → Float → Float → Float → Vec3 → Vec3 → Scattered
+dielectricFromSnell s cosO F u wo wh =
+    cond (reflects u F) (branch true (reflect wo wh)) (branch false (refractFrom s cosO wo wh))
 
 -- ---- from Λ(wo): nothing reads it where the surface scatters into one direction
 unfoldable pub conductorPdfWith : Vec2 → Float → Vec3 → Vec3 → Float

@@ -1,7 +1,7 @@
 // Mirror and bend, and lumo's `BxDF` for metal and glass: src/tracer/bxdf/microfacet.rs, bxdf.rs.
 use crate::microfacet::Ggx;
 use crate::microfacet::Kind;
-use floats::square_root::sqrt_or_zero;
+use crate::microfacet::Snell;
 use numbers::EPSILON;
 use numbers::spherical_utils;
 use numbers::vec3::Vec3;
@@ -10,8 +10,9 @@ pub mod conductor;
 pub mod dielectric;
 
 ghost use mathlib.Core.Path.{_≡_};
-ghost use Rattle.optics.specs.Bxdf.{reflected, refracted, reflect, refract, refractFacing};
+ghost use Rattle.optics.specs.Bxdf.{reflected, refracted, reflect, refract};
 ghost use Rattle.optics.specs.Density.{onZSide, atZ, pdfOf};
+ghost use Rattle.optics.specs.SharedTerms.{refractFacingFrom, refractFrom};
 
 // What a mirror answers.
 pub enum Reflected {
@@ -47,28 +48,32 @@ pub fn reflect(wo: Vec3, n: Vec3) -> Reflected
 pub fn refract(eta: f64, wo: Vec3, n: Vec3) -> Refracted
     ensures { λ r. ⌜ refracted r ≡ refract eta wo n ⌝ }
 {
-    // possibly flip the orientation if we are "inside"
     let cos_to = n.dot(wo);
-    if cos_to < 0.0 {
-        return refract_facing(1.0 / eta, -cos_to, wo, n.negate());
-    }
-    refract_facing(eta, cos_to, wo, n)
+    refract_from(Snell::new(cos_to, eta), cos_to, wo, n)
 }
 
-// Against the index and the normal on `wo`'s side.
-fn refract_facing(eta: f64, cos_to: f64, wo: Vec3, n: Vec3) -> Refracted
-    ensures { λ r. ⌜ refracted r ≡ refractFacing eta «cos_to» wo n ⌝ }
+// `refract` with Snell's law and `cos_to`, which is `n.dot(wo)`, at hand.
+pub fn refract_from(snell: Snell, cos_to: f64, wo: Vec3, n: Vec3) -> Refracted
+    ensures { λ r. ⌜ refracted r ≡ refractFrom snell «cos_to» wo n ⌝ }
 {
-    let sin2_ti = (1.0 - cos_to * cos_to) / (eta * eta);
+    // possibly flip the orientation if we are "inside"
+    if cos_to < 0.0 {
+        return refract_facing(snell, -cos_to, wo, n.negate());
+    }
+    refract_facing(snell, cos_to, wo, n)
+}
 
+// With the cosine and the normal on `wo`'s side.
+fn refract_facing(snell: Snell, cos_to: f64, wo: Vec3, n: Vec3) -> Refracted
+    ensures { λ r. ⌜ refracted r ≡ refractFacingFrom snell «cos_to» wo n ⌝ }
+{
     // total internal reflection
-    if sin2_ti >= 1.0 {
+    if snell.sin2 >= 1.0 {
         return Refracted::Total;
     }
 
-    let cos_ti = sqrt_or_zero(1.0 - sin2_ti);
-    let along = wo.negate().div_float(eta);
-    let wi = along.add(Vec3::float_mul(cos_to / eta - cos_ti, n));
+    let along = wo.negate().div_float(snell.eta);
+    let wi = along.add(Vec3::float_mul(cos_to / snell.eta - snell.cos, n));
     if spherical_utils::same_hemisphere(wi, wo) {
         return Refracted::None;
     }

@@ -14,8 +14,8 @@ ghost use mathlib.Core.Path.{_≡_};
 ghost use mathlib.Core.Bool.{cond};
 ghost use Rattle.floats.specs.Float.{f0};
 ghost use Rattle.optics.specs.Facets.{isDelta, lambda, chiPass, g1, g, gOverG1, d, sampleNormalPdf, fSchlick, disneyDiffuse};
-ghost use Rattle.optics.specs.SharedTerms.{azimuth, chiPassAt, g1At, gOverG1At, sampleNormalPdfAt};
-ghost use Rattle.optics.specs.Fresnel.{frFacing, frReal, complexCosI, rPar, rPer, frComplexFacing, frComplex, fresnel, fAt, f};
+ghost use Rattle.optics.specs.SharedTerms.{azimuth, chiPassAt, g1At, gOverG1At, sampleNormalPdfAt, snell, frRealFrom, fresnelFrom};
+ghost use Rattle.optics.specs.Fresnel.{indexFrom, frReal, complexCosI, rPar, rPer, frComplexFacing, frComplex, fresnel, fAt, f};
 ghost use Rattle.optics.specs.Surface.{kindCode, isKindCode, kindOf, etaAt, kAt, constantEta};
 ghost use Rattle.optics.specs.Sampler.{viewed, tangent, onHemisphere, combined, unstretched, sampleNormal};
 
@@ -410,6 +410,19 @@ pub fn fresnel(cos_o: f64, eta: f64, k: f64) -> f64
     fr_complex(cos_o, eta, k)
 }
 
+// `fresnel` with Snell's law at hand, for who bends light by it too.
+pub fn fresnel_from(snell: Snell, cos_o: f64, eta: f64, k: f64) -> f64
+    ensures { λ r. ⌜ r ≡ fresnelFrom snell «cos_o» eta k ⌝ }
+{
+    if k == 0.0 {
+        if eta == 0.0 {
+            return 0.0;
+        }
+        return fr_real_from(snell, cos_o);
+    }
+    fr_complex(cos_o, eta, k)
+}
+
 pub fn fr_complex(cos_o: f64, eta: f64, k: f64) -> f64
     ensures { λ r. ⌜ r ≡ frComplex «cos_o» eta k ⌝ }
 {
@@ -452,29 +465,59 @@ fn r_per(cos_o: f64, eta: Complex, cos_i: Complex) -> Complex
 pub fn fr_real(cos_o: f64, eta: f64) -> f64
     ensures { λ r. ⌜ r ≡ frReal «cos_o» eta ⌝ }
 {
-    if cos_o < 0.0 {
-        return fr_facing(float::abs(cos_o), 1.0 / eta);
-    }
-    fr_facing(float::abs(cos_o), eta)
+    fr_real_from(Snell::new(cos_o, eta), cos_o)
 }
 
-// At a cosine that isn't below 0, against the index on its side.
-fn fr_facing(cos_o: f64, eta: f64) -> f64
-    ensures { λ r. ⌜ r ≡ frFacing «cos_o» eta ⌝ }
+// `fr_real` with Snell's law at hand.
+fn fr_real_from(snell: Snell, cos_o: f64) -> f64
+    ensures { λ r. ⌜ r ≡ frRealFrom snell «cos_o» ⌝ }
 {
-    let sin2_i = (1.0 - cos_o * cos_o) / (eta * eta);
-
     // total internal reflection
-    if sin2_i >= 1.0 {
+    if snell.sin2 >= 1.0 {
         return 1.0;
     }
 
-    let cos_i = sqrt_or_zero(1.0 - sin2_i);
-    let o = eta * cos_o;
-    let i = eta * cos_i;
+    let cos_o = float::abs(cos_o);
+    let cos_i = snell.cos;
+    let o = snell.eta * cos_o;
+    let i = snell.eta * cos_i;
 
     let r_par = (o - cos_i) / (o + cos_i);
     let r_per = (cos_o - i) / (cos_o + i);
 
     (r_par * r_par + r_per * r_per) / 2.0
+}
+
+// Snell's law at a facet, sin θo = η sin θi: the index on the side that light comes from, and the square
+// of the sine and the cosine of the angle beyond. Both Fresnel's term and the bend read it.
+pub struct Snell {
+    pub eta: f64,
+    pub sin2: f64,
+    pub cos: f64,
+}
+
+impl Snell {
+    // `eta` is the surface's index. At total internal reflection the sine's square is 1 or more, and no
+    // root is worked.
+    pub fn new(cos_o: f64, eta: f64) -> Snell
+        ensures { λ r. ⌜ r ≡ snell «cos_o» eta ⌝ }
+    {
+        let eta = index_from(cos_o, eta);
+        let sin2 = (1.0 - cos_o * cos_o) / (eta * eta);
+        Snell {
+            eta,
+            sin2,
+            cos: sqrt_or_zero(1.0 - sin2),
+        }
+    }
+}
+
+// From below, light leaves the medium.
+fn index_from(cos_o: f64, eta: f64) -> f64
+    ensures { λ r. ⌜ r ≡ indexFrom «cos_o» eta ⌝ }
+{
+    if cos_o < 0.0 {
+        return 1.0 / eta;
+    }
+    eta
 }

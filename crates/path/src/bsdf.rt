@@ -20,12 +20,14 @@ use optics::color::Color;
 use optics::microfacet;
 use optics::microfacet::Ggx;
 use optics::microfacet::Kind;
+use optics::microfacet::Snell;
 use optics::microfacet::Surface;
 ghost use mathlib.Core.Path.{_≡_};
 ghost use mathlib.Core.Bool.{cond};
 ghost use Rattle.floats.specs.Float.{f0};
 ghost use Rattle.optics.specs.Color.{color};
 ghost use Rattle.numbers.specs.Refusal.{verdict};
+ghost use Rattle.numbers.specs.Vec3.{dot};
 ghost use Rattle.optics.specs.Check.{checkSurface};
 ghost use Rattle.optics.specs.Surface.{microsurface, constantEta};
 ghost use Rattle.optics.specs.Facets.{isDelta, lambda};
@@ -154,17 +156,37 @@ fn on_glass(
     // the roots of Λ(wo) wait for no other: they are worked while those of the normal are waited for
     let smooth = dielectric::is_smooth(mfd, at.eta);
     let lambda_wo = mfd.lambda_unless(smooth, wo);
-    let f = microfacet::f_at(wo, wh, at.eta, at.k);
+    // the share that is reflected and the bend read the same root, that of Snell's law
+    let wo_dot_wh = wo.dot(wh);
+    let snell = Snell::new(wo_dot_wh, at.eta);
+    let f = microfacet::fresnel_from(snell, wo_dot_wh, at.eta, at.k);
     let shares = Shares::Of {
         reflected: f,
         passed: 1.0 - f,
     };
-    let Sampled::Direction { wi, reflection } = dielectric::sample_from(wo, wh, at.eta, f, b.u)
-    else {
+    let Sampled::Direction { wi, reflection } = dielectric::sample_from(
+        snell,
+        wo_dot_wh,
+        wo,
+        wh,
+        f,
+        b.u,
+    ) else {
         return lost(left, shares);
     };
 
-    let seen = seen_on_glass(smooth, lambda_wo, mfd, at.eta, at.k, wo, wi, wh, reflection);
+    let seen = seen_on_glass(
+        smooth,
+        lambda_wo,
+        wo_dot_wh,
+        mfd,
+        at.eta,
+        at.k,
+        wo,
+        wi,
+        wh,
+        reflection,
+    );
     let filter = weight::glass_filter(reflection, b.ks, b.tf);
     sent(
         reflection,
@@ -219,7 +241,7 @@ fn seen_on_metal(delta: bool, lambda_wo: f64, mfd: Ggx, wo: Vec3, wi: Vec3, wh: 
     ensures { λ r. ⌜ (r .pdf ≡ conductorPdf (mfd .roughness) wo wi) × (r .q ≡ shadowing (isDelta (mfd .roughness)) (mfd .roughness) wo wi wh) ⌝ }
 {
     let half = conductor::half(wo, wi);
-    let q = weight::shadowing(mfd, delta, lambda_wo, wo, wi, wh);
+    let q = weight::shadowing(mfd, delta, lambda_wo, wo.dot(wh), wo, wi, wh);
     let pdf = conductor::pdf_at(lambda_wo, wo, wi, half, mfd);
     Seen { pdf, q }
 }
@@ -227,6 +249,7 @@ fn seen_on_metal(delta: bool, lambda_wo: f64, mfd: Ggx, wo: Vec3, wi: Vec3, wh: 
 fn seen_on_glass(
     smooth: bool,
     lambda_wo: f64,
+    wo_dot_wh: f64,
     mfd: Ggx,
     eta: f64,
     k: f64,
@@ -235,12 +258,12 @@ fn seen_on_glass(
     wh: Vec3,
     reflection: bool,
 ) -> Seen
-    requires { ⌜ (smooth ≡ isSmooth (mfd .roughness) eta) × («lambda_wo» ≡ cond smooth f0 (lambda (mfd .roughness) wo)) ⌝ }
+    requires { ⌜ (smooth ≡ isSmooth (mfd .roughness) eta) × («lambda_wo» ≡ cond smooth f0 (lambda (mfd .roughness) wo)) × («wo_dot_wh» ≡ dot wo wh) ⌝ }
     ensures { λ r. ⌜ (r .pdf ≡ dielectricPdf (mfd .roughness) eta k reflection wo wi) × (r .q ≡ shadowing (isSmooth (mfd .roughness) eta) (mfd .roughness) wo wi wh) ⌝ }
 {
     let ratio = dielectric::eta_ratio(reflection, wo, eta);
     let half = dielectric::half(eta, ratio, wo, wi);
-    let q = weight::shadowing(mfd, smooth, lambda_wo, wo, wi, wh);
+    let q = weight::shadowing(mfd, smooth, lambda_wo, wo_dot_wh, wo, wi, wh);
     let pdf = dielectric::pdf_at(lambda_wo, wo, wi, half, reflection, mfd, eta, k, ratio);
     Seen { pdf, q }
 }

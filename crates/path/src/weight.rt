@@ -6,6 +6,7 @@ use optics::microfacet::Ggx;
 ghost use mathlib.Core.Path.{_≡_};
 ghost use mathlib.Core.Bool.{cond};
 ghost use Rattle.floats.specs.Float.{f0};
+ghost use Rattle.numbers.specs.Vec3.{dot};
 ghost use Rattle.optics.specs.Facets.{lambda};
 ghost use Rattle.path.specs.Path.{each2};
 ghost use Rattle.path.specs.Bounce.{shadowing, metalShare, metalFilter, weight, weightsOf};
@@ -19,22 +20,23 @@ pub const LOST: Color = Color {
 };
 
 // q: the share of the light that the facets let through to `wi`, and 1 where the surface scatters
-// into one direction. `lambda_wo` is Λ(wo) where that is read.
+// into one direction. `lambda_wo` is Λ(wo) where that is read, and `wo_dot_wh` the cosine.
 pub(crate) fn shadowing(
     mfd: Ggx,
     one_direction: bool,
     lambda_wo: f64,
+    wo_dot_wh: f64,
     wo: Vec3,
     wi: Vec3,
     wh: Vec3,
 ) -> f64
-    requires { ⌜ «lambda_wo» ≡ cond «one_direction» f0 (lambda (mfd .roughness) wo) ⌝ }
+    requires { ⌜ («lambda_wo» ≡ cond «one_direction» f0 (lambda (mfd .roughness) wo)) × («wo_dot_wh» ≡ dot wo wh) ⌝ }
     ensures { λ r. ⌜ r ≡ shadowing «one_direction» (mfd .roughness) wo wi wh ⌝ }
 {
     if one_direction {
         return 1.0;
     }
-    mfd.g_over_g1_at(lambda_wo, wo.dot(wh), wo, wi, wh)
+    mfd.g_over_g1_at(lambda_wo, wo_dot_wh, wo, wi, wh)
 }
 
 // The share of light that metal reflects, from its Fresnel term `f`: rounding may take that above 1.

@@ -5,13 +5,14 @@ use crate::bxdf::Refracted;
 use crate::bxdf::Sampled;
 use crate::microfacet;
 use crate::microfacet::Ggx;
+use crate::microfacet::Snell;
 use floats::float;
 use numbers::vec3::Vec3;
 ghost use mathlib.Core.Path.{_≡_};
-ghost use Rattle.optics.specs.Bxdf.{sampled, isSmooth, reflects, dielectricNormal, dielectricFrom, dielectricSample};
+ghost use Rattle.optics.specs.Bxdf.{sampled, isSmooth, reflects, dielectricNormal, dielectricSample};
 ghost use Rattle.numbers.specs.Vec3.{dot};
 ghost use Rattle.optics.specs.Density.{etaRatio, dielectricHalf, isDiscarded, reflectedPdf, passedPdf, dielectricPdfFrom, dielectricPdf};
-ghost use Rattle.optics.specs.SharedTerms.{sampleNormalPdfAt, dielectricPdfWith};
+ghost use Rattle.optics.specs.SharedTerms.{sampleNormalPdfAt, dielectricFromSnell, dielectricPdfWith};
 
 // Glass that scatters into one direction: delta, or of the index 1.0.
 pub fn is_smooth(mfd: Ggx, eta: f64) -> bool
@@ -39,9 +40,17 @@ fn reflects(rand_u: f64, pr: f64) -> bool
     rand_u < pr / (pr + pt)
 }
 
-// The direction that the facet's normal `wh` sends on, `pr` being the share that is reflected.
-pub fn sample_from(wo: Vec3, wh: Vec3, eta: f64, pr: f64, rand_u: f64) -> Sampled
-    ensures { λ r. ⌜ sampled r ≡ dielectricFrom eta pr «rand_u» wo wh ⌝ }
+// The direction that the facet's normal `wh` sends on, `pr` being the share that is reflected, with
+// Snell's law and `wo_dot_wh` at hand.
+pub fn sample_from(
+    snell: Snell,
+    wo_dot_wh: f64,
+    wo: Vec3,
+    wh: Vec3,
+    pr: f64,
+    rand_u: f64,
+) -> Sampled
+    ensures { λ r. ⌜ sampled r ≡ dielectricFromSnell snell «wo_dot_wh» pr «rand_u» wo wh ⌝ }
 {
     if reflects(rand_u, pr) {
         return match bxdf::reflect(wo, wh) {
@@ -52,7 +61,7 @@ pub fn sample_from(wo: Vec3, wh: Vec3, eta: f64, pr: f64, rand_u: f64) -> Sample
             Reflected::None => Sampled::None,
         };
     }
-    match bxdf::refract(eta, wo, wh) {
+    match bxdf::refract_from(snell, wo_dot_wh, wo, wh) {
         Refracted::Direction(wi) => Sampled::Direction {
             wi,
             reflection: false,
@@ -76,7 +85,10 @@ pub fn sample(
     ensures { λ r. ⌜ sampled r ≡ dielectricSample (mfd .roughness) eta k wo «rand_u» disk c s ⌝ }
 {
     let wh = normal(wo, mfd, eta, disk, c, s);
-    sample_from(wo, wh, eta, microfacet::f_at(wo, wh, eta, k), rand_u)
+    let wo_dot_wh = wo.dot(wh);
+    let snell = Snell::new(wo_dot_wh, eta);
+    let pr = microfacet::fresnel_from(snell, wo_dot_wh, eta, k);
+    sample_from(snell, wo_dot_wh, wo, wh, pr, rand_u)
 }
 
 pub fn pdf(wo: Vec3, wi: Vec3, reflection: bool, mfd: Ggx, eta: f64, k: f64) -> f64

@@ -10,11 +10,11 @@ returns : tie.Need-returns
 unfolding conductorPdfWith
 returns c =
     let at-shadowing = c .before in
-    let at-half = at-shadowing .before in
+    let at-half = at-shadowing .before .before in
     let pre = at-half .before .pre in (
       rw (c .pdf-at .ensures, at-half .half .ensures, pre .1, pre .0) (metal-density _ f0 _ _),
       rw (at-shadowing .shadowing .ensures, pre .0),
     )
 
 pub seen-on-metal-spec : {M : Type 1} → statement M
-seen-on-metal-spec = tie.close (tie.spec (λ c κs. search needs) (λ c κs. search needs) (λ c κs. search needs) returns)
+seen-on-metal-spec = tie.close (tie.spec (λ c κs. search needs) (λ c κs. search needs) (λ c κs. search needs) (λ c κs. search needs) returns)

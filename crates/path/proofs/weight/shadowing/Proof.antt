@@ -13,15 +13,14 @@ returns c = rw (c .if1 .taken)
 returns-2 : tie.Need-returns-2
 unfolding shadowing
 returns-2 c =
-    let at-dot = c .before in
-    let at-if1 = at-dot .before in
+    let at-if1 = c .before in
     rw (
       c .g-over-g1-at .ensures,
-      at-dot .dot .ensures,
-      at-if1 .before .pre,
+      at-if1 .before .pre .1,
+      at-if1 .before .pre .0,
       at-if1 .if1 .left,
       g-over-g1-at,
     )
 
 pub shadowing-spec : {M : Type 1} → statement M
-shadowing-spec = tie.close (tie.spec returns (λ c κs. search needs) (λ c κs. search needs) returns-2)
+shadowing-spec = tie.close (tie.spec returns (λ c κs. search needs) returns-2)
