@@ -13,7 +13,7 @@ use Rattle.optics.specs.Facets.{isDelta, lambda, chiPass, masked, g1, g,
 use Rattle.optics.specs.Fresnel.{indexFrom, sin2I, cosI, frFacing, frReal, fresnel, fAt}
 use Rattle.optics.specs.Bxdf.{refractFacing, refract, Scattered, isSmooth, dielectricFrom}
 use Rattle.optics.specs.Density.{conductorHalf, conductorPdfFrom, conductorPdf, etaRatio, dielectricHalf, reflectedPdf, passedPdf, dielectricPdfFrom, dielectricPdf}
-use Rattle.optics.specs.SharedTerms.{Snell, azimuth, chiPassAt, g1At, gOverG1At, sampleNormalPdfAt, snell, frRealFrom, fresnelFrom, refractFacingFrom, refractFrom, dielectricFromSnell, conductorPdfWith, dielectricPdfWith}
+use Rattle.optics.specs.SharedTerms.{Snell, azimuth, chiPassAt, g1At, gOverG1At, sampleNormalPdfAt, snell, frRealFrom, fresnelFrom, refractFacingFrom, refractFrom, dielectricFromSnell}
 use Rattle.optics.proofs.Cosine.{dot-comm, sin2-abs, sin2-neg}
 
 -- ---- the azimuth
@@ -87,31 +87,24 @@ pub normal-density : (a : Vec2) (wh wo : Vec3) → sampleNormalPdfAt a (lambda a
 unfolding sampleNormalPdfAt sampleNormalPdf
 normal-density a wh wo = rw (g1-at a wo wh, dot-comm wh wo)
 
--- from any number l where the surface is delta, else from Λ(wo)
-pub metal-density : (a : Vec2) (l : Float) (wo wi : Vec3) → conductorPdfWith a (cond (isDelta a) l (lambda a wo)) wo wi ≡ conductorPdf a wo wi
-unfolding conductorPdfWith conductorPdf conductorPdfFrom
-metal-density a l wo wi = go (isDelta a)
+-- wh takes wo to wi. From any number l where the surface is delta, else from Λ(wo)
+pub metal-density : (a : Vec2) (l : Float) (wo wi : Vec3) → (λwo : Float) → λwo ≡ cond (isDelta a) l (lambda a wo) → (wh : Vec3) → wh ≡ conductorHalf wo wi
+    → conductorPdfFrom (sampleNormalPdfAt a λwo (dot wo wh) wh wo) (isDelta a) wo wi wh ≡ conductorPdf a wo wi
+unfolding conductorPdf conductorPdfFrom
+metal-density a l wo wi λwo e wh h = rw (e, ← h) (go (isDelta a))
   where
-    wh : Vec3
-    wh = conductorHalf wo wi
-
     go : (delta : Bool) → conductorPdfFrom (sampleNormalPdfAt a (cond delta l (lambda a wo)) (dot wo wh) wh wo) delta wo wi wh
         ≡ conductorPdfFrom (sampleNormalPdf a wh wo) delta wo wi wh
     go true = refl
     go false = rw (normal-density a wh wo)
 
 -- and where the glass is smooth
-pub glass-density : (a : Vec2) (l eta k : Float) (reflection : Bool) (wo wi : Vec3)
-    → dielectricPdfWith a (cond (isSmooth a eta) l (lambda a wo)) eta k reflection wo wi ≡ dielectricPdf a eta k reflection wo wi
-unfolding dielectricPdfWith dielectricPdf dielectricPdfFrom reflectedPdf passedPdf
-glass-density a l eta k reflection wo wi = go (isSmooth a eta)
+pub glass-density : (a : Vec2) (l eta k : Float) (reflection : Bool) (wo wi : Vec3) → (λwo : Float) → λwo ≡ cond (isSmooth a eta) l (lambda a wo)
+    → (ratio : Float) → ratio ≡ etaRatio reflection wo eta → (wh : Vec3) → wh ≡ dielectricHalf eta ratio wo wi
+    → dielectricPdfFrom (sampleNormalPdfAt a λwo (dot wo wh) wh wo) (isSmooth a eta) eta k ratio reflection wo wi wh ≡ dielectricPdf a eta k reflection wo wi
+unfolding dielectricPdf dielectricPdfFrom reflectedPdf passedPdf
+glass-density a l eta k reflection wo wi λwo e ratio er wh h = rw (e, ← er, ← h) (go (isSmooth a eta))
   where
-    ratio : Float
-    ratio = etaRatio reflection wo eta
-
-    wh : Vec3
-    wh = dielectricHalf eta ratio wo wi
-
     go : (smooth : Bool) → dielectricPdfFrom (sampleNormalPdfAt a (cond smooth l (lambda a wo)) (dot wo wh) wh wo) smooth eta k ratio reflection wo wi wh
         ≡ dielectricPdfFrom (sampleNormalPdf a wh wo) smooth eta k ratio reflection wo wi wh
     go true = refl

@@ -4,12 +4,11 @@ use mathlib.Core.Bool.{Bool, true, false, cond}
 use lib.Ieee.{Float, neg, lt, eq}
 use Rattle.floats.specs.Float.{_⊕_, _⊗_, _⊘_, f0, f1, f-1, epsilon, max, abs, clamp, signum}
 use Rattle.numbers.specs.SphericalUtils.{cosTheta}
-use Rattle.numbers.specs.Vec3.{negate, dot}
+use Rattle.numbers.specs.Vec3.{negate}
 use Rattle.numbers.specs.declared.{vec2.Vec2.Vec2, vec3.Vec3.Vec3}
-use Rattle.optics.specs.Facets.{isDelta, lambda, masked, d}
+use Rattle.optics.specs.Facets.{lambda, masked, d}
 use Rattle.optics.specs.Fresnel.{indexFrom, sin2I, isTotal, cosI, unpolarized, frComplex}
-use Rattle.optics.specs.Bxdf.{Outgoing, total, reflect, bent, acrossOnly, Scattered, branch, isSmooth, reflects}
-use Rattle.optics.specs.Density.{conductorHalf, conductorPdfFrom, etaRatio, dielectricHalf, dielectricPdfFrom}
+use Rattle.optics.specs.Bxdf.{Outgoing, total, reflect, bent, acrossOnly, Scattered, branch, reflects}
 pub use Rattle.optics.specs.declared.microfacet.Snell.{Snell}
 
 -- ---- from the sine of the polar angle: cosPhi by the part along x, sinPhi by that along y; `pole` where the sine is 0
@@ -59,15 +58,3 @@ refractFrom s cosO wo n =
 unfoldable pub dielectricFromSnell : Snell → Float → Float → Float → Vec3 → Vec3 → Scattered
 dielectricFromSnell s cosO F u wo wh =
     cond (reflects u F) (branch true (reflect wo wh)) (branch false (refractFrom s cosO wo wh))
-
--- ---- from Λ(wo): nothing reads it where the surface scatters into one direction
-unfoldable pub conductorPdfWith : Vec2 → Float → Vec3 → Vec3 → Float
-conductorPdfWith a lambdaWo wo wi =
-    let wh = conductorHalf wo wi in
-    conductorPdfFrom (sampleNormalPdfAt a lambdaWo (dot wo wh) wh wo) (isDelta a) wo wi wh
-
-unfoldable pub dielectricPdfWith : Vec2 → Float → Float → Float → Bool → Vec3 → Vec3 → Float
-dielectricPdfWith a lambdaWo eta k reflection wo wi =
-    let ratio = etaRatio reflection wo eta in
-    let wh = dielectricHalf eta ratio wo wi in
-    dielectricPdfFrom (sampleNormalPdfAt a lambdaWo (dot wo wh) wh wo) (isSmooth a eta) eta k ratio reflection wo wi wh

@@ -11,7 +11,7 @@ ghost use Rattle.optics.specs.Bxdf.{sampled, conductorNormal, conductorF
 ghost use Rattle.numbers.specs.Vec3.{dot};
 ghost use Rattle.optics.specs.Facets.{isDelta};
 ghost use Rattle.optics.specs.Density.{conductorHalf, conductorPdfFrom, conductorPdf};
-ghost use Rattle.optics.specs.SharedTerms.{sampleNormalPdfAt, conductorPdfWith};
+ghost use Rattle.optics.specs.SharedTerms.{sampleNormalPdfAt};
 
 // The facet's normal: Z if delta.
 pub fn normal(wo: Vec3, mfd: Ggx, disk: f64, c: f64, s: f64) -> Vec3
@@ -56,13 +56,7 @@ pub fn sample(wo: Vec3, mfd: Ggx, disk: f64, c: f64, s: f64) -> Sampled
 pub fn pdf(wo: Vec3, wi: Vec3, mfd: Ggx) -> f64
     ensures { λ r. ⌜ r ≡ conductorPdf (mfd .roughness) wo wi ⌝ }
 {
-    pdf_with(mfd.lambda_unless(mfd.is_delta(), wo), wo, wi, mfd)
-}
-
-// `pdf` with Λ(wo) at hand.
-pub fn pdf_with(lambda_wo: f64, wo: Vec3, wi: Vec3, mfd: Ggx) -> f64
-    ensures { λ r. ⌜ r ≡ conductorPdfWith (mfd .roughness) «lambda_wo» wo wi ⌝ }
-{
+    let lambda_wo = mfd.lambda_unless(mfd.is_delta(), wo);
     pdf_at(lambda_wo, wo, wi, half(wo, wi), mfd)
 }
 

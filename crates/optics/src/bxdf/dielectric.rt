@@ -12,7 +12,7 @@ ghost use mathlib.Core.Path.{_≡_};
 ghost use Rattle.optics.specs.Bxdf.{sampled, isSmooth, reflects, dielectricNormal, dielectricSample};
 ghost use Rattle.numbers.specs.Vec3.{dot};
 ghost use Rattle.optics.specs.Density.{etaRatio, dielectricHalf, isDiscarded, reflectedPdf, passedPdf, dielectricPdfFrom, dielectricPdf};
-ghost use Rattle.optics.specs.SharedTerms.{sampleNormalPdfAt, dielectricFromSnell, dielectricPdfWith};
+ghost use Rattle.optics.specs.SharedTerms.{sampleNormalPdfAt, dielectricFromSnell};
 
 // Glass that scatters into one direction: delta, or of the index 1.0.
 pub fn is_smooth(mfd: Ggx, eta: f64) -> bool
@@ -95,21 +95,6 @@ pub fn pdf(wo: Vec3, wi: Vec3, reflection: bool, mfd: Ggx, eta: f64, k: f64) -> 
     ensures { λ r. ⌜ r ≡ dielectricPdf (mfd .roughness) eta k reflection wo wi ⌝ }
 {
     let lambda_wo = mfd.lambda_unless(is_smooth(mfd, eta), wo);
-    pdf_with(lambda_wo, wo, wi, reflection, mfd, eta, k)
-}
-
-// `pdf` with Λ(wo) at hand.
-pub fn pdf_with(
-    lambda_wo: f64,
-    wo: Vec3,
-    wi: Vec3,
-    reflection: bool,
-    mfd: Ggx,
-    eta: f64,
-    k: f64,
-) -> f64
-    ensures { λ r. ⌜ r ≡ dielectricPdfWith (mfd .roughness) «lambda_wo» eta k reflection wo wi ⌝ }
-{
     let ratio = eta_ratio(reflection, wo, eta);
     let wh = half(eta, ratio, wo, wi);
     pdf_at(lambda_wo, wo, wi, wh, reflection, mfd, eta, k, ratio)

@@ -1,18 +1,16 @@
 -- `path::bsdf::seen_on_glass` meets its contract: the calls give what their contracts promise, and Λ(wo) handed on changes nothing, by `glass-density`.
 use borrow.Author.Needs.{needs}
 use Rattle.floats.specs.Float.{f0}
-use Rattle.optics.specs.SharedTerms.{dielectricPdfWith}
 use Rattle.optics.proofs.SharedTerms.{glass-density}
 use Rattle.path.proofs.bsdf.seen_on_glass.Statement.{statement}
 use Rattle.path.proofs.bsdf.seen_on_glass.Tie as tie
 
 returns : tie.Need-returns
-unfolding dielectricPdfWith
 returns c =
     let at-shadowing = c .before in
     let at-half = at-shadowing .before in
     let pre = at-half .before .before .pre in (
-      rw (c .pdf-at .ensures, at-half .half .ensures, at-half .before .eta-ratio .ensures, pre .1, pre .0) (glass-density _ f0 _ _ _ _ _),
+      rw (c .pdf-at .ensures) (glass-density _ f0 _ _ _ _ _ _ (rw (← pre .0) (pre .1)) _ (at-half .before .eta-ratio .ensures) _ (at-half .half .ensures)),
       rw (at-shadowing .shadowing .ensures, pre .0),
     )
 
