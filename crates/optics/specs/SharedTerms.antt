@@ -37,10 +37,7 @@ sampleNormalPdfAt a lambdaWo woDotWh wh wo =
 
 -- ---- from Snell's law, which Fresnel's term and the bend have in common: the index on wo's side, sin² θi and cos θi, by cos θo, which is wo · wh
 unfoldable pub snell : Float → Float → Snell
-snell cosO eta =
-    let index = indexFrom cosO eta in
-    let sin2 = sin2I cosO index in
-    record { eta = index; sin2 = sin2; cos = cosI sin2 }
+snell cosO eta = let index = indexFrom cosO eta in record { eta = index; sin2 = sin2I cosO index; cos = cosI (sin2I cosO index) }
 
 unfoldable pub frRealFrom : Snell → Float → Float
 frRealFrom s cosO = cond (isTotal (s .sin2)) f1 (unpolarized (s .eta) (abs cosO) (s .cos))
