@@ -87,6 +87,13 @@ pub normal-density : (a : Vec2) (wh wo : Vec3) → sampleNormalPdfAt a (lambda a
 unfolding sampleNormalPdfAt sampleNormalPdf
 normal-density a wh wo = rw (g1-at a wo wh, dot-comm wh wo)
 
+-- smooth glass doesn't read the density of the normal: any number l does
+pub normal-unread : (n l eta k ratio : Float) (smooth reflection : Bool) (wo wi wh : Vec3)
+    → dielectricPdfFrom (cond smooth l n) smooth eta k ratio reflection wo wi wh ≡ dielectricPdfFrom n smooth eta k ratio reflection wo wi wh
+unfolding dielectricPdfFrom reflectedPdf passedPdf
+normal-unread n l eta k ratio true reflection wo wi wh = refl
+normal-unread n l eta k ratio false reflection wo wi wh = refl
+
 -- wh takes wo to wi. From any number l where the surface is delta, else from Λ(wo)
 pub metal-density : (a : Vec2) (l : Float) (wo wi : Vec3) → (λwo : Float) → λwo ≡ cond (isDelta a) l (lambda a wo) → (wh : Vec3) → wh ≡ conductorHalf wo wi
     → conductorPdfFrom (sampleNormalPdfAt a λwo (dot wo wh) wh wo) (isDelta a) wo wi wh ≡ conductorPdf a wo wi

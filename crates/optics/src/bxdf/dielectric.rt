@@ -9,6 +9,8 @@ use crate::microfacet::Snell;
 use floats::float;
 use numbers::vec3::Vec3;
 ghost use mathlib.Core.Path.{_≡_};
+ghost use mathlib.Core.Bool.{cond};
+ghost use Rattle.floats.specs.Float.{f0};
 ghost use Rattle.optics.specs.Bxdf.{sampled, isSmooth, reflects, dielectricNormal, dielectricSample};
 ghost use Rattle.numbers.specs.Vec3.{dot};
 ghost use Rattle.optics.specs.Density.{etaRatio, dielectricHalf, isDiscarded, reflectedPdf, passedPdf, dielectricPdfFrom, dielectricPdf};
@@ -142,14 +144,16 @@ pub fn pdf_at(
     if is_discarded(wh_dot_wo, wh_dot_wi, wo, wi) {
         return 0.0;
     }
+    // the root of the normal's density stands before that of the share: more waits for it
+    let smooth = is_smooth(mfd, eta);
+    let normal_pdf = normal_pdf(smooth, lambda_wo, wh_dot_wo, wo, wh, mfd);
     let pr = microfacet::fresnel(wh_dot_wo, eta, k);
     if reflection {
-        return reflected_pdf(lambda_wo, mfd, eta, pr, wh_dot_wo, wo, wh);
+        return reflected_pdf(normal_pdf, smooth, pr, wh_dot_wo, wo, wh);
     }
     passed_pdf(
-        lambda_wo,
-        mfd,
-        eta,
+        normal_pdf,
+        smooth,
         ratio,
         pr,
         wh_dot_wo,
@@ -158,6 +162,16 @@ pub fn pdf_at(
         wi,
         wh,
     )
+}
+
+// The density of the facet's normal: 0 where the glass is smooth, since nothing reads it there.
+fn normal_pdf(smooth: bool, lambda_wo: f64, wh_dot_wo: f64, wo: Vec3, wh: Vec3, mfd: Ggx) -> f64
+    ensures { λ r. ⌜ r ≡ cond smooth f0 (sampleNormalPdfAt (mfd .roughness) «lambda_wo» «wh_dot_wo» wh wo) ⌝ }
+{
+    if smooth {
+        return 0.0;
+    }
+    mfd.sample_normal_pdf_at(lambda_wo, wh_dot_wo, wh, wo)
 }
 
 // A facet along `wo` or `wi`, or a backfacing one.
@@ -177,31 +191,21 @@ fn is_discarded(wh_dot_wo: f64, wh_dot_wi: f64, wo: Vec3, wi: Vec3) -> bool
 }
 
 // Reflection, `pr` being its share.
-fn reflected_pdf(
-    lambda_wo: f64,
-    mfd: Ggx,
-    eta: f64,
-    pr: f64,
-    wh_dot_wo: f64,
-    wo: Vec3,
-    wh: Vec3,
-) -> f64
+fn reflected_pdf(normal_pdf: f64, smooth: bool, pr: f64, wh_dot_wo: f64, wo: Vec3, wh: Vec3) -> f64
     requires { ⌜ «wh_dot_wo» ≡ dot wo wh ⌝ }
-    ensures { λ r. ⌜ r ≡ reflectedPdf (sampleNormalPdfAt (mfd .roughness) «lambda_wo» «wh_dot_wo» wh wo) (isSmooth (mfd .roughness) eta) pr wo wh ⌝ }
+    ensures { λ r. ⌜ r ≡ reflectedPdf «normal_pdf» smooth pr wo wh ⌝ }
 {
     let pt = 1.0 - pr;
-    if is_smooth(mfd, eta) {
+    if smooth {
         return bxdf::at_z(wh, pr / (pr + pt));
     }
-    mfd.sample_normal_pdf_at(lambda_wo, wh_dot_wo, wh, wo) / (4.0 * float::abs(wh_dot_wo)) * pr
-        / (pr + pt)
+    normal_pdf / (4.0 * float::abs(wh_dot_wo)) * pr / (pr + pt)
 }
 
 // Transmission, `1.0 - pr` being its share.
 fn passed_pdf(
-    lambda_wo: f64,
-    mfd: Ggx,
-    eta: f64,
+    normal_pdf: f64,
+    smooth: bool,
     ratio: f64,
     pr: f64,
     wh_dot_wo: f64,
@@ -211,14 +215,12 @@ fn passed_pdf(
     wh: Vec3,
 ) -> f64
     requires { ⌜ («wh_dot_wo» ≡ dot wo wh) × («wh_dot_wi» ≡ dot wi wh) ⌝ }
-    ensures { λ r. ⌜ r ≡ passedPdf (sampleNormalPdfAt (mfd .roughness) «lambda_wo» «wh_dot_wo» wh wo) (isSmooth (mfd .roughness) eta) ratio pr wo wi wh ⌝ }
+    ensures { λ r. ⌜ r ≡ passedPdf «normal_pdf» smooth ratio pr wo wi wh ⌝ }
 {
     let pt = 1.0 - pr;
-    if is_smooth(mfd, eta) {
+    if smooth {
         return bxdf::at_z(wh, pt / (pr + pt));
     }
     let root = wh_dot_wi + wh_dot_wo / ratio;
-    mfd.sample_normal_pdf_at(lambda_wo, wh_dot_wo, wh, wo) * float::abs(wh_dot_wi) / (root * root)
-        * pt
-        / (pr + pt)
+    normal_pdf * float::abs(wh_dot_wi) / (root * root) * pt / (pr + pt)
 }

@@ -9,7 +9,5 @@ use Rattle.optics.proofs.bxdf.dielectric.passed_pdf.Tie as tie
 
 pub passed-pdf-spec : {M : Type 1} → statement M
 unfolding passedPdf bentPdf rest powi2 ofBits
-passed-pdf-spec = tie.close (tie.spec (λ c κs. search needs) (λ c κs. search needs)
-    (λ c. rw (← c .before .before .is-smooth .ensures, c .before .if1 .taken, ← c .at-z .ensures)) (λ c κs. search needs) (λ c κs. search needs)
-    (λ c. let p = c .before .before in
-    rw (← p .before .is-smooth .ensures, p .if1 .left, ← p .before .before .pre .0, ← p .before .before .pre .1, ← c .before .sample-normal-pdf-at .ensures, ← c .abs .ensures)))
+passed-pdf-spec = tie.close (tie.spec (λ c κs. search needs) (λ c. rw (c .before .if1 .taken, ← c .at-z .ensures)) (λ c κs. search needs)
+    (λ c. rw (c .before .if1 .left, ← c .before .before .pre .0, ← c .before .before .pre .1, ← c .abs .ensures)))

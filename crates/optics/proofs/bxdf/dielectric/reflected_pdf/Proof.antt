@@ -8,7 +8,5 @@ use Rattle.optics.proofs.bxdf.dielectric.reflected_pdf.Tie as tie
 
 pub reflected-pdf-spec : {M : Type 1} → statement M
 unfolding reflectedPdf mirroredPdf rest ofBits
-reflected-pdf-spec = tie.close (tie.spec (λ c κs. search needs) (λ c κs. search needs)
-    (λ c. rw (← c .before .before .is-smooth .ensures, c .before .if1 .taken, ← c .at-z .ensures)) (λ c κs. search needs) (λ c κs. search needs)
-    (λ c. let p = c .before .before in
-    rw (← p .before .is-smooth .ensures, p .if1 .left, ← p .before .before .pre, ← c .before .sample-normal-pdf-at .ensures, ← c .abs .ensures)))
+reflected-pdf-spec = tie.close (tie.spec (λ c κs. search needs) (λ c. rw (c .before .if1 .taken, ← c .at-z .ensures)) (λ c κs. search needs)
+    (λ c. rw (c .before .if1 .left, ← c .before .before .pre, ← c .abs .ensures)))
