@@ -92,6 +92,9 @@ const WHOLE_BITS: u64 = 0x4330000000000000;
 
 const WHOLE_LESS_HALF: f64 = 4503599627370495.5;
 
+// 2 ^ 51: of what is below, the sum with it is below 2 ^ 53, where whole numbers still follow each other.
+const SMALL_END: f64 = 2251799813685248.0;
+
 // A whole number, and its double.
 struct Whole {
     number: u64,
@@ -103,7 +106,7 @@ fn ceiling(x: f64) -> Whole
     ensures { λ r. ⌜ (r .number ≡ ceiling x) × (r .value ≡ ofInt binary64 (pos (ceiling x))) ⌝ }
 {
     if 1.0 < x {
-        if x < 2251799813685248.0 {
+        if x < SMALL_END {
             return small_ceiling(x);
         }
     }
@@ -114,7 +117,7 @@ fn ceiling(x: f64) -> Whole
     }
 }
 
-// The same above 1 and below 2 ^ 51, where nearly every wavelength has it: with no cast, for Rattle's are
+// The same above 1 and below SMALL_END, as it is of nearly every wavelength: with no cast, for Rattle's are
 // slow. The sum reaches WHOLE, so that it is rounded to a whole number: of x less a half that is the one
 // below x, and where x is whole it is x or the one before.
 fn small_ceiling(x: f64) -> Whole

@@ -12,7 +12,7 @@ use Prim.Native.Nat.{ℕ, _+_, _*_, _≤_, _<_}
 use native.Mathlib.Nat.{le-trans, le-of-eq, lt-of-le-of-lt, mul-le-mul-right, le-of-mul-le-mul-right, mul-comm, mul-assoc, mul-le-mul-left}
 use native.Mathlib.Omega.{arith}
 use lib.Dec.{T, lit≤, lit<}
-use lib.Ieee.{Float, nan, inf, fin, Format, binary64, unlike, neg, lt, eq, fits}
+use lib.Ieee.{Float, fin, Format, binary64, unlike, neg, lt, eq, fits}
 use lib.Ieee.Fits.{add-fits, div-fits}
 use Rattle.floats.proofs.Rounding.{rnd}
 use Rattle.floats.proofs.Rounding.Units.{U, O, U-pos, Is, is-of, sign, mag, div-is, round-units, rnd-U, unique}

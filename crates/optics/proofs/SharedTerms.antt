@@ -1,6 +1,6 @@
 -- A term that is computed once and handed on changes nothing: from it each form of specs/SharedTerms.antt is its formula.
 -- The cosine wo · wh stands for wh · wo, by `dot-comm`. Where a surface scatters into one direction its density doesn't read Λ(wo), so
--- that any number does there (`metal-density`, `glass-density`).
+-- that any number does there (`metal-density`, `glass-density`), nor on glass the density of the normal (`normal-unread`).
 use mathlib.Core.Path.{_≡_, refl}
 use mathlib.Core.Bool.{Bool, true, false, cond}
 use lib.Ieee.{Float, neg, lt, eq}

@@ -35,7 +35,7 @@ unfoldable pub sampleNormalPdfAt : Vec2 → Float → Float → Vec3 → Vec3 �
 sampleNormalPdfAt a lambdaWo woDotWh wh wo =
     max (g1At lambdaWo woDotWh wo wh ⊗ d a wh ⊗ abs woDotWh ⊘ abs (cosTheta wo)) f0
 
--- ---- from Snell's law, which Fresnel's term and the bend have in common: the index on wo's side, sin² θi and cos θi, by cos θo, which is wo · wh
+-- ---- from Snell's law, which Fresnel's term and the bend have in common: the index against wo's side, sin² θi and cos θi, by cos θo, which is wo · wh
 unfoldable pub snell : Float → Float → Snell
 snell cosO eta = let index = indexFrom cosO eta in record { eta = index; sin2 = sin2I cosO index; cos = cosI (sin2I cosO index) }
 

@@ -56,7 +56,7 @@ pub fn refract(eta: f64, wo: Vec3, n: Vec3) -> Refracted
 pub fn refract_from(snell: Snell, cos_to: f64, wo: Vec3, n: Vec3) -> Refracted
     ensures { λ r. ⌜ refracted r ≡ refractFrom snell «cos_to» wo n ⌝ }
 {
-    // possibly flip the orientation if we are "inside"
+    // possibly flip the orientation if we are "inside"; `Snell::new` has turned the index
     if cos_to < 0.0 {
         return refract_facing(snell, -cos_to, wo, n.negate());
     }

@@ -410,7 +410,7 @@ pub fn fresnel(cos_o: f64, eta: f64, k: f64) -> f64
     fr_complex(cos_o, eta, k)
 }
 
-// `fresnel` with Snell's law at hand, for who bends light by it too.
+// `fresnel` with Snell's law at hand, for a caller that bends light by it too.
 pub fn fresnel_from(snell: Snell, cos_o: f64, eta: f64, k: f64) -> f64
     ensures { λ r. ⌜ r ≡ fresnelFrom snell «cos_o» eta k ⌝ }
 {
@@ -488,8 +488,8 @@ fn fr_real_from(snell: Snell, cos_o: f64) -> f64
     (r_par * r_par + r_per * r_per) / 2.0
 }
 
-// Snell's law at a facet, sin θo = η sin θi: the index on the side that light comes from, and the square
-// of the sine and the cosine of the angle beyond. Both Fresnel's term and the bend read it.
+// Snell's law at a facet, sin θo = η sin θi: the index against the side that light comes from, the sine's
+// square beyond the facet, and the cosine there. Both Fresnel's term and the bend read it.
 pub struct Snell {
     pub eta: f64,
     pub sin2: f64,

@@ -4,7 +4,7 @@
 -- A wavelength from 256 on is a multiple of 2 ^ -44, so one that is above a grid point is that far above, and the quotient by the step does not round down onto the point's index.
 use mathlib.Core.Path.{_≡_, refl, sym, ap, _∙_, subst}
 use mathlib.Core.Logic.{inl, inr}
-use mathlib.Core.Bool.{Bool·beq, Bool, true, false, not, cond, _||_}
+use mathlib.Core.Bool.{Bool·beq, Bool, true, false, cond, _||_}
 use mathlib.Core.List.{List}
 use Prim.Native.Nat.{ℕ, zero, suc, _+_, _-_, _*_, _/_, _^_, _≤_, _<_}
 use native.Mathlib.Nat.{le-refl, le-trans, le-of-eq, le-of-lt, lt-of-le-of-lt, lt-of-lt-of-le, lt-irrefl, not-le-of-lt, mul-le-mul-right, mul-le-mul-left, le-of-mul-le-mul-right, lt-of-mul-lt-mul-right, mul-pos, mul-comm, mul-assoc, div-lt-iff-lt-mul, one-mul, zero-mul, mul-zero, le-antisymm}
@@ -13,7 +13,7 @@ use lib.Dec.{T, eqb, lit≤, lit<}
 use lib.IntN.{pos}
 use lib.ListN.{length}
 use lib.Pow.{pow-add, pow-pos, pow-mono}
-use lib.Ieee.{Float, fin, Format, binary64, up, down, size, ofInt, round, le, lt, eq, fits}
+use lib.Ieee.{Float, fin, Format, binary64, up, down, size, ofInt, le, lt, eq, fits}
 use lib.Ieee.Digits.{size-le, back}
 use lib.Ieee.Fits.{and-i, and-l, and-r, eq→eqb, add-fits, div-fits}
 use lib.Ieee.Order.{drop, kept}

@@ -219,28 +219,33 @@ small-units (fin false m e) f l h =
     let i = is-of x tt f .0 in
     (i, lt-units f1 x U (mag x) unit-is i .0 l, lt-units x smallEnd (mag x) (2 ^ 51 * U) i end-units .0 h)
 
--- what `small_ceiling` computes: the sum's pattern has n, and n or one more is the ceiling
+-- what `small_ceiling` computes: the last digits of the sum's pattern are the ceiling, or one less
+abbrev number : Float → ℕ
+number x = toBits B (near x) - 1075 * 2 ^ 52
+
 pub record Near (x : Float) : Type 0 where
-  pub n : ℕ
-  pub few : n < 2 ^ 51
-  pub bits : toBits B (near x) ≡ 1075 * 2 ^ 52 + n
-  pub number : T (not (isNan (near x)))
-  pub from-below : T (lt (below x) x) → (n + 1 ≡ ceiling x) × (add B (below x) f1 ≡ ofInt B (pos (n + 1)))
-  pub at-whole : T (not (lt (below x) x)) → (n ≡ ceiling x) × (below x ≡ ofInt B (pos n))
+  pub not-nan : T (not (isNan (near x)))
+  pub reaches : 1075 * 2 ^ 52 ≤ toBits B (near x)
+  pub few : number x + 1 < 2 ^ 64
+  pub from-below : T (lt (below x) x) → (number x + 1 ≡ ceiling x) × (add B (below x) f1 ≡ ofInt B (pos (ceiling x)))
+  pub at-whole : T (not (lt (below x) x)) → (number x ≡ ceiling x) × (below x ≡ ofInt B (pos (ceiling x)))
 
 is-not-nan : (x : Float) (s : Bool) (a : ℕ) → Is x s a → T (not (isNan x))
 unfolding isNan
 is-not-nan (fin t m e) s a i = tt
 
-pub near-of : (x : Float) → T (fits B x) → T (lt f1 x) → T (lt x smallEnd) → Near x
-near-of x f l h =
-    let u = small-units x f l h in
+pub near-of : (x : Float) → T (fits B x) → T (lt f1 x) × T (lt x smallEnd) → Near x
+near-of x f h =
+    let u = small-units x f (h .0) (h .1) in
     let a = mag x in
+    let bits = near-bits x a (u .0) (u .1) (u .2) in
+    let e : number x ≡ n x a (u .0) (u .1) (u .2) = omega arith in
+    let l = n-few x a (u .0) (u .1) (u .2) in
     record {
-      n = n x a (u .0) (u .1) (u .2);
-      few = n-few x a (u .0) (u .1) (u .2);
-      bits = near-bits x a (u .0) (u .1) (u .2);
-      number = is-not-nan (near x) false _ (near-is x a (u .0) (u .1) (u .2));
-      from-below = from-below x a (u .0) (u .1) (u .2);
-      at-whole = at-whole x a (u .0) (u .1) (u .2);
+      not-nan = is-not-nan (near x) false _ (near-is x a (u .0) (u .1) (u .2));
+      reaches = omega arith;
+      few = omega arith;
+      from-below = λ t. let r = from-below x a (u .0) (u .1) (u .2) t in
+          let c = ap (λ (z : ℕ). z + 1) e ∙ r .0 in (c, r .1 ∙ ap (λ (z : ℕ). ofInt B (pos z)) (r .0));
+      at-whole = λ t. let r = at-whole x a (u .0) (u .1) (u .2) t in (e ∙ r .0, r .1 ∙ ap (λ (z : ℕ). ofInt B (pos z)) (r .0));
     }

@@ -146,7 +146,7 @@ pub fn pdf_at(
     }
     // the root of the normal's density stands before that of the share: more waits for it
     let smooth = is_smooth(mfd, eta);
-    let normal_pdf = normal_pdf(smooth, lambda_wo, wh_dot_wo, wo, wh, mfd);
+    let normal_pdf = normal_pdf_unless(smooth, lambda_wo, wh_dot_wo, wo, wh, mfd);
     let pr = microfacet::fresnel(wh_dot_wo, eta, k);
     if reflection {
         return reflected_pdf(normal_pdf, smooth, pr, wh_dot_wo, wo, wh);
@@ -165,7 +165,14 @@ pub fn pdf_at(
 }
 
 // The density of the facet's normal: 0 where the glass is smooth, since nothing reads it there.
-fn normal_pdf(smooth: bool, lambda_wo: f64, wh_dot_wo: f64, wo: Vec3, wh: Vec3, mfd: Ggx) -> f64
+fn normal_pdf_unless(
+    smooth: bool,
+    lambda_wo: f64,
+    wh_dot_wo: f64,
+    wo: Vec3,
+    wh: Vec3,
+    mfd: Ggx,
+) -> f64
     ensures { λ r. ⌜ r ≡ cond smooth f0 (sampleNormalPdfAt (mfd .roughness) «lambda_wo» «wh_dot_wo» wh wo) ⌝ }
 {
     if smooth {

@@ -20,7 +20,7 @@ returns-2 c =
     let at-normal-pdf = at-fresnel .before in
     let at-smooth = at-normal-pdf .before in
     let p = at-smooth .before in
-    rw (← normal-unread _ f0 _ _ _ _ _ _ _ _, ← p .before .before .before .dot .ensures, ← p .before .before .dot2 .ensures, ← p .before .is-discarded .ensures, p .if1 .left, ← at-smooth .is-smooth .ensures, ← at-normal-pdf .normal-pdf .ensures, ← at-fresnel .fresnel .ensures, c .before .if2 .taken, ← c .reflected-pdf .ensures)
+    rw (← normal-unread _ f0 _ _ _ _ _ _ _ _, ← p .before .before .before .dot .ensures, ← p .before .before .dot2 .ensures, ← p .before .is-discarded .ensures, p .if1 .left, ← at-smooth .is-smooth .ensures, ← at-normal-pdf .normal-pdf-unless .ensures, ← at-fresnel .fresnel .ensures, c .before .if2 .taken, ← c .reflected-pdf .ensures)
 
 returns-3 : tie.Need-returns-3
 unfolding dielectricPdfFrom fAt ofBits
@@ -29,7 +29,7 @@ returns-3 c =
     let at-normal-pdf = at-fresnel .before in
     let at-smooth = at-normal-pdf .before in
     let p = at-smooth .before in
-    rw (← normal-unread _ f0 _ _ _ _ _ _ _ _, ← p .before .before .before .dot .ensures, ← p .before .before .dot2 .ensures, ← p .before .is-discarded .ensures, p .if1 .left, ← at-smooth .is-smooth .ensures, ← at-normal-pdf .normal-pdf .ensures, ← at-fresnel .fresnel .ensures, c .before .if2 .left, ← c .passed-pdf .ensures)
+    rw (← normal-unread _ f0 _ _ _ _ _ _ _ _, ← p .before .before .before .dot .ensures, ← p .before .before .dot2 .ensures, ← p .before .is-discarded .ensures, p .if1 .left, ← at-smooth .is-smooth .ensures, ← at-normal-pdf .normal-pdf-unless .ensures, ← at-fresnel .fresnel .ensures, c .before .if2 .left, ← c .passed-pdf .ensures)
 
 pub pdf-at-spec : {M : Type 1} → statement M
 pdf-at-spec = tie.close (tie.spec (λ c κs. search needs) (λ c κs. search needs) (λ c κs. search needs) returns (λ c κs. search needs) (λ c κs. search needs)
