@@ -92,7 +92,7 @@ const WHOLE_BITS: u64 = 0x4330000000000000;
 
 const WHOLE_LESS_HALF: f64 = 4503599627370495.5;
 
-// 2 ^ 51: of what is below, the sum with it is below 2 ^ 53, where whole numbers still follow each other.
+// 2 ^ 51: a value below it stays, with WHOLE added, below 2 ^ 53, up to where every whole number is a double.
 const SMALL_END: f64 = 2251799813685248.0;
 
 // A whole number, and its double.
