@@ -1,16 +1,19 @@
 -- The values of binary64 that are not negative, the infinity and both zeros included, as natural numbers
 -- of units: `Ext x a`, from O units on the infinity; `Fine x a` for the finite ones.
 -- Proved: what the test `0.0 <= x` tells (`ext-of`, `fine-of`, `share-of`), the order by units (`ext-le`, `le-ext`), and a sum,
--- a difference, a product and a quotient by units (`add-ext`, `sub-fine`, `mul-ext`, `div-ext`, `div-inf`).
+-- a difference, a product and a quotient by units (`add-ext`, `sub-fine`, `mul-ext`, `div-ext`, `div-inf`); whole numbers (`int-is`).
 -- Each goes by the signs of the two values to the law of Units, and by whether the result is below O.
 use mathlib.Core.Path.{_≡_, refl, sym, ap, _∙_, subst}
 use mathlib.Core.Logic.{_⊎_, inl, inr}
-use Prim.Native.Nat.{ℕ, _+_, _-_, _*_, _≤_, _<_, zero-le}
-use native.Mathlib.Nat.{le-refl, le-trans, le-of-eq, lt-of-le-of-lt, lt-irrefl, mul-one, zero-mul, mul-pos}
+use Prim.Native.Nat.{ℕ, _+_, _-_, _*_, _^_, _≤_, _<_, zero-le}
+use native.Mathlib.Nat.{le-refl, le-trans, le-of-eq, lt-of-le-of-lt, lt-irrefl, mul-one, mul-right-comm, zero-mul, mul-pos}
 use native.Mathlib.Omega.{arith}
 use mathlib.Core.Bool.{Bool, true, false, not, true≢false}
 use lib.Dec.{T, ltb→lt, lit<, lt→ltb}
-use lib.Ieee.{Float, nan, inf, fin, Format, binary64, unlike, up, down, round, neg, sum, add, sub, mul, div, le, lt, eq, fits}
+use lib.IntN.{pos}
+use lib.Ieee.{Float, nan, inf, fin, Format, binary64, unlike, up, down, round, neg, sum, add, sub, mul, div, le, lt, eq, ofInt, fits}
+use lib.Ieee.Back.{round-whole}
+use lib.Ieee.Exact.{HasValue}
 use lib.Ieee.Fits.{down-pos}
 use lib.Ieee.Scale.{finite}
 use lib.Ieee.Positive.{first-pos}
@@ -26,6 +29,14 @@ nil-is = (refl, omega arith)
 
 pub unit-is : Is f1 false U
 unit-is = (refl, omega arith)
+
+-- a whole number as a float
+rescale : (x : Float) (s : Bool) (q : ℕ) → HasValue x s q 1 → Is x s (q * U)
+rescale (fin t m e) s q h = (h .0, ap (λ (z : ℕ). z * U) (sym (mul-one (m * up e)) ∙ h .1) ∙ mul-right-comm q (down e) U)
+
+pub int-is : (q : ℕ) → q ≤ 2 ^ 53 → Is (ofInt B (pos q)) false (q * U)
+unfolding ofInt
+int-is q h = rescale (round B false q 1) false q (round-whole B false q h)
 
 -- x is finite, not negative (-0 is not), and a units
 abbrev pub Fine : Float → ℕ → Type 0

@@ -7,7 +7,7 @@
 use mathlib.Core.Path.{_≡_, refl, sym, ap, _∙_, subst}
 use mathlib.Core.Logic.{_⊎_, inl, inr}
 use Prim.Native.Nat.{ℕ, zero, suc, _+_, _-_, _*_, _/_, _%_, _^_, _≤_, _<_}
-use native.Mathlib.Nat.{le-trans, le-of-eq, lt-of-le-of-lt, lt-of-lt-of-le, lt-irrefl, mul-assoc, mul-right-comm, mul-le-mul-right, mul-le-mul, mul-one, one-mul, mul-pos, mul-div-cancel, eq-zero-or-pos, le-div-iff-mul-le, zero-lt-suc}
+use native.Mathlib.Nat.{le-trans, le-of-eq, lt-of-le-of-lt, lt-of-lt-of-le, lt-irrefl, mul-assoc, mul-le-mul-right, mul-le-mul, mul-one, one-mul, mul-pos, mul-div-cancel, eq-zero-or-pos, le-div-iff-mul-le, zero-lt-suc}
 use native.Mathlib.Omega.{arith}
 use mathlib.Core.Bool.{Bool, true, false, not}
 use lib.IntN.{ℤ, pos}
@@ -20,14 +20,13 @@ use lib.Ieee.Order.{drop, kept}
 use lib.Ieee.Positive.{positive}
 use lib.Ieee.Bits.{is-false, nanBits-above}
 use lib.Arith.{lt→nleb, le→nltb}
-use lib.Ieee.Back.{round-whole}
-use lib.Ieee.Exact.{HasValue, odd-sign}
+use lib.Ieee.Exact.{odd-sign}
 use lib.Ieee.Fits.{mul-fits, round-fits, kept-lt, up-pos}
 use Rattle.floats.specs.SquareRoot.{isqrt, sticky, rootOfUnits, squareRoot}
 use Rattle.floats.specs.RootSteps.{Root, RootFrom, Normal}
 use Rattle.floats.proofs.Rounding.{rnd, rnd-same, below-or-from}
 use Rattle.floats.proofs.Rounding.Units.{U, O, O-is, U-is, U-pos, Is, mag, is-of, below→test, test→below, Held, mul-is, round-units, unique, pattern, bits-of, units-pos}
-use Rattle.floats.proofs.Rounding.NonNegative.{held-of, none-below}
+use Rattle.floats.proofs.Rounding.NonNegative.{int-is, held-of, none-below}
 use Rattle.floats.proofs.square_root.WholeRoot.{rootOf-value, rootOf-is, digits-of-root}
 use denote.Floats.{passes}
 
@@ -59,14 +58,7 @@ bits-at b x t e h k =
 pub clean : (b : ℕ) → b ≤ inf-pattern → T (not (nanBits B b))
 clean b h = rw (nanBits-above B b) (le→nltb inf-pattern (b % 2 ^ 63) (omega arith))
 
--- ---- a whole number as a float
-rescale : (x : Float) (s : Bool) (q : ℕ) → HasValue x s q 1 → Is x s (q * U)
-rescale (fin t m e) s q h = (h .0, ap (λ (z : ℕ). z * U) (sym (mul-one (m * up e)) ∙ h .1) ∙ mul-right-comm q (down e) U)
-
-pub int-is : (q : ℕ) → q ≤ 2 ^ 53 → Is (ofInt B (pos q)) false (q * U)
-unfolding ofInt
-int-is q h = rescale (round B false q 1) false q (round-whole B false q h)
-
+-- ---- a power of two, and a whole number times it
 pow-at : (x : ℕ) → suc x < 2047 → Is (ofBits B (suc x * 2 ^ 52)) false (2 ^ 52 * 2 ^ x)
 pow-at x h = bits-at (suc x * 2 ^ 52) x 0 (omega arith) h (lit< tt)
 

@@ -7,7 +7,7 @@ use mathlib.Core.Logic.{inl, inr}
 use mathlib.Core.Bool.{Bool·beq, Bool, true, false, cond, _||_}
 use mathlib.Core.List.{List}
 use Prim.Native.Nat.{ℕ, zero, suc, _+_, _-_, _*_, _/_, _^_, _≤_, _<_}
-use native.Mathlib.Nat.{le-refl, le-trans, le-of-eq, le-of-lt, lt-of-le-of-lt, lt-of-lt-of-le, lt-irrefl, not-le-of-lt, mul-le-mul-right, mul-le-mul-left, le-of-mul-le-mul-right, lt-of-mul-lt-mul-right, mul-pos, mul-comm, mul-assoc, div-lt-iff-lt-mul, one-mul, zero-mul, mul-zero, le-antisymm}
+use native.Mathlib.Nat.{le-refl, le-trans, le-of-eq, le-of-lt, lt-of-le-of-lt, lt-of-lt-of-le, lt-irrefl, not-le-of-lt, mul-le-mul-right, mul-le-mul-left, le-of-mul-le-mul-right, lt-of-mul-lt-mul-right, mul-lt-mul-of-pos-right, mul-pos, mul-comm, mul-assoc, div-lt-iff-lt-mul, one-mul, zero-mul, mul-zero, le-antisymm}
 use native.Mathlib.Omega.{arith}
 use lib.Dec.{T, eqb, lit≤, lit<}
 use lib.IntN.{pos}
@@ -20,13 +20,13 @@ use lib.Ieee.Order.{drop, kept}
 use lib.Ieee.Scale.{finite}
 use Rattle.floats.proofs.Rounding.{rnd, Near, rnd-fix, rnd-mono, rnd-same, rnd-err, rnd-whole, below-or-from, size-above}
 use Rattle.floats.proofs.Rounding.Units.{U, O, U-is, U-pos, U-O, Is, is-of, mag, either, unique, le-finite}
-use Rattle.floats.proofs.Rounding.NonNegative.{Fine, Ext, unit-ext, U-held, share-of, fine-under, inside, mul-ext, div-ext, sub-fine, add-ext, fine-pos, unit-fine}
+use Rattle.floats.proofs.Rounding.NonNegative.{Fine, Ext, int-is, unit-ext, U-held, share-of, fine-under, inside, mul-ext, div-ext, sub-fine, add-ext, fine-pos, unit-fine}
 use Rattle.floats.proofs.Rounding.Shares.{rnd-mono1}
 use Rattle.floats.proofs.Rounding.Error.{Fin, P, N, M, M/2, le-parts, mul-rnd, unscale, sum-mag, one-side}
 use Rattle.numbers.proofs.vec3.UnitVector.{sum-err}
 use Rattle.floats.proofs.Rounding.Sizes.{fine-N, pos-of, zero-N}
 use Rattle.numbers.proofs.dense_spectrum.Every.{entry-every}
-use Rattle.numbers.proofs.dense_spectrum.WholePart.{held-whole, whole-is, times, ceiling-is}
+use Rattle.numbers.proofs.dense_spectrum.WholePart.{held-whole, ceiling-is}
 use Rattle.floats.specs.Float.{_⊕_, _⊖_, _⊗_, _⊘_, f0, f1, decimal, within}
 use Rattle.numbers.specs.DenseSpectrum.{lambdaMin, lambdaMax, denseSamples, denseStep, terminated, entry, interpolate, upperPoint, upperLambda, upperWeight, sampleOneAt, sampleOne, allWithin, inTable, isWavelength}
 
@@ -125,7 +125,7 @@ above s n k g h =
     let below : a < 2 ^ (1074 + b) * c = subst (λ (w : ℕ). a < w * c) (top b) (small s k (2 ^ b) U G s0 (lt-of-le-of-lt h (g .few)) G-lt U-pos) in
     let z : size (a / c) ≤ 1074 + b = size-le (a / c) (1074 + b) (div-lt-iff-lt-mul c0 .1 below) in
     let e-le : e ≤ 2 ^ (1021 + b) = pow-mono (omega arith) in
-    let se : s * e < 2 * G = lt-of-le-of-lt (le-trans (mul-le-mul-left s e-le) (le-of-eq (split s b))) (lt-of-lt-of-le (times (s * 2 ^ b) 1024 (2 ^ 1021) (g .fine) (pow-pos 1021)) (le-of-eq pow-1021)) in
+    let se : s * e < 2 * G = lt-of-le-of-lt (le-trans (mul-le-mul-left s e-le) (le-of-eq (split s b))) (lt-of-lt-of-le (mul-lt-mul-of-pos-right (g .fine) (pow-pos 1021)) (le-of-eq pow-1021)) in
     elim (below-or-from (k * U) (rnd 53 a c)) [
       | inl l ↦ l
       | inr r ↦ absurd (no-way s (rnd 53 a c) k U G e (rnd-err 53 a c c0 .1) r se U-pos)
@@ -141,7 +141,7 @@ above s n k g h =
     small s k t u g s0 h l p =
         let m : s * suc k * u ≤ s * t * u = mul-le-mul-right u (mul-le-mul-left s h) in
         let v : 1 * u ≤ s * u = mul-le-mul-right u s0 in
-        let x : (s * k * u + g) * u < s * t * u * u = times (s * k * u + g) (s * t * u) u (omega arith) p in
+        let x : (s * k * u + g) * u < s * t * u * u = mul-lt-mul-of-pos-right (omega arith) p in
         omega arith
 
     no-way : (s r k u g e : ℕ) → 2 * ((s * k * u + g) * u) ≤ 2 * (r * (s * u)) + s * u * e → r ≤ k * u → s * e < 2 * g → 0 < u → ⊥
@@ -304,7 +304,7 @@ module _ (step : Float) (s n : ℕ) (g : Grid s n) (i : Is step false (s * U)) w
       let o = ofInt binary64 (pos k) in
       let sk = span s n k g h in
       let e : rnd 53 (s * U * (k * U) * U) (U * U) ≡ s * k * U = rnd-same 53 (s * U * (k * U) * U) (U * U) (s * k * U) 1 (lit< tt) (mul-pos U-pos U-pos) (lit< tt) (omega arith) ∙ held-whole (s * k) (far (s * k) sk) in
-      let x = mul-ext step o (s * U) (k * U) step-fine (false, whole-is k (far k (omega (arith, mul-le-mul-right k s0))), refl) in
+      let x = mul-ext step o (s * U) (k * U) step-fine (false, int-is k (le-of-lt (far k (omega (arith, mul-le-mul-right k s0)))), refl) in
       fine-under (step ⊗ o) (s * k * U) (subst (λ (z : ℕ). Ext (step ⊗ o) z) e x) (whole-O (s * k) (le-trans sk (lit≤ tt)))
 
   point-fine : (k : ℕ) → k ≤ n → Fine (gridPoint step k) ((360 + s * k) * U)

@@ -3,9 +3,9 @@
 -- n ≤ x ≤ n + 1, and it is found in the last digits of the sum's pattern.
 use mathlib.Core.Path.{_≡_, refl, sym, ap, _∙_, subst}
 use mathlib.Core.Logic.{inl}
-use mathlib.Core.Bool.{Bool, true, false, not}
+use mathlib.Core.Bool.{true, false, not}
 use Prim.Native.Nat.{ℕ, _+_, _-_, _*_, _/_, _^_, _≤_, _<_}
-use native.Mathlib.Nat.{le-trans, le-of-eq, le-of-lt, lt-of-le-of-lt, lt-of-lt-of-le, mul-le-mul-right, le-of-mul-le-mul-right, lt-of-mul-lt-mul-right, mul-pos, mul-div-cancel, le-antisymm}
+use native.Mathlib.Nat.{le-trans, le-of-eq, le-of-lt, lt-of-le-of-lt, lt-of-lt-of-le, mul-le-mul-right, le-of-mul-le-mul-right, lt-of-mul-lt-mul-right, mul-lt-mul-of-pos-right, mul-pos, mul-div-cancel, le-antisymm}
 use native.Mathlib.Omega.{arith}
 use lib.Dec.{T, lit<, lit≤}
 use lib.IntN.{pos, negsuc}
@@ -16,9 +16,10 @@ use lib.Ieee.Order.{drop, kept}
 use Rattle.floats.specs.Float.{f1}
 use Rattle.floats.proofs.Rounding.{rnd, rnd-err, size-above}
 use Rattle.floats.proofs.Rounding.Units.{U, O, U-is, U-pos, Is, is-of, mag, bits-of, unique}
-use Rattle.floats.proofs.Rounding.NonNegative.{Ext, unit-is, unit-ext, fine-under, fine-pos, add-ext, sub-fine}
+use Rattle.floats.proofs.Rounding.NonNegative.{Ext, unit-is, int-is, unit-ext, fine-under, fine-pos, add-ext, sub-fine}
+use Rattle.floats.proofs.Rounding.Sizes.{is-number}
 use Rattle.numbers.specs.DenseSpectrum.{ceiling}
-use Rattle.numbers.proofs.dense_spectrum.WholePart.{held-whole, top-O, whole-is, times, lt-units, ceiling-is}
+use Rattle.numbers.proofs.dense_spectrum.WholePart.{held-whole, top-O, lt-units, ceiling-is}
 
 abbrev B : Format
 B = binary64
@@ -162,7 +163,7 @@ module _ (x : Float) (a : ℕ) (i : Is x false a) (lo : U < a) (hi : a < 2 ^ 51 
   unfolding n
   near-bits =
       bits-of (near x) false (k * U) near-is
-      ∙ ap (λ (z : ℕ). 0 + (z - 53) * 2 ^ 52 + k * U / 2 ^ (z - 53)) (digits-1127 (k * U) (mul-le-mul-right U k-low) (times k (2 ^ 53) U (lt-of-lt-of-le k-high (lit≤ tt)) U-pos))
+      ∙ ap (λ (z : ℕ). 0 + (z - 53) * 2 ^ 52 + k * U / 2 ^ (z - 53)) (digits-1127 (k * U) (mul-le-mul-right U k-low) (mul-lt-mul-of-pos-right (lt-of-lt-of-le k-high (lit≤ tt)) U-pos))
       ∙ ap (λ (z : ℕ). 0 + 1074 * 2 ^ 52 + k * U / z) (sym U-is)
       ∙ ap (λ (z : ℕ). 0 + 1074 * 2 ^ 52 + z) (mul-div-cancel k U-pos)
       ∙ carry k k-low
@@ -192,7 +193,7 @@ module _ (x : Float) (a : ℕ) (i : Is x false a) (lo : U < a) (hi : a < 2 ^ 51 
       let few : n + 1 < 2 ^ 53 = let h = n-few in omega arith in
       let sum : rnd 53 (n * U + U) 1 ≡ (n + 1) * U = ap (λ (z : ℕ). rnd 53 z 1) (next n U) ∙ held-whole (n + 1) few in
       let e : Ext (add B (below x) f1) ((n + 1) * U) = subst (λ (z : ℕ). Ext (add B (below x) f1) z) sum (add-ext (below x) f1 (n * U) U (inl (lt-of-le-of-lt n-low a-O, (false, below-is, refl))) unit-ext) in
-      let g = whole-is (n + 1) few in
+      let g = int-is (n + 1) (le-of-lt few) in
       let v = fine-pos (add B (below x) f1) ((n + 1) * U) (fine-under (add B (below x) f1) ((n + 1) * U) e (lt-of-le-of-lt (mul-le-mul-right U (le-of-lt few)) top-O)) (mul-pos (omega arith) U-pos) in (
         is-ceiling (n + 1) (le-trans n-high (le-of-eq (next n U))) (lt-of-le-of-lt (le-of-eq (sym (next n U))) (omega arith)),
         unique (add B (below x) f1) (ofInt B (pos (n + 1))) false ((n + 1) * U) (add-fits B (below x) f1) (ofInt-fits B (pos (n + 1))) v g,
@@ -205,7 +206,7 @@ module _ (x : Float) (a : ℕ) (i : Is x false a) (lo : U < a) (hi : a < 2 ^ 51 
   at-whole t =
       let l = lt-units (below x) x (n * U) a below-is i .1 t in (
         is-ceiling n l (lt-of-le-of-lt n-low (omega (arith, U-pos))),
-        unique (below x) (ofInt B (pos n)) false (n * U) (sub-fits B (near x) whole) (ofInt-fits B (pos n)) below-is (whole-is n (lt-of-lt-of-le n-few (lit≤ tt))),
+        unique (below x) (ofInt B (pos n)) false (n * U) (sub-fits B (near x) whole) (ofInt-fits B (pos n)) below-is (int-is n (le-trans (le-of-lt n-few) (lit≤ tt))),
       )
 
 -- a value above 1 and below 2 ^ 51, by units
@@ -230,10 +231,6 @@ pub record Near (x : Float) : Type 0 where
   pub from-below : T (lt (below x) x) → (number x + 1 ≡ ceiling x) × (add B (below x) f1 ≡ ofInt B (pos (ceiling x)))
   pub at-whole : T (not (lt (below x) x)) → (number x ≡ ceiling x) × (below x ≡ ofInt B (pos (ceiling x)))
 
-is-not-nan : (x : Float) (s : Bool) (a : ℕ) → Is x s a → T (not (isNan x))
-unfolding isNan
-is-not-nan (fin t m e) s a i = tt
-
 pub near-of : (x : Float) → T (fits B x) → T (lt f1 x) × T (lt x smallEnd) → Near x
 near-of x f h =
     let u = small-units x f (h .0) (h .1) in
@@ -242,7 +239,7 @@ near-of x f h =
     let e : number x ≡ n x a (u .0) (u .1) (u .2) = omega arith in
     let l = n-few x a (u .0) (u .1) (u .2) in
     record {
-      not-nan = is-not-nan (near x) false _ (near-is x a (u .0) (u .1) (u .2));
+      not-nan = is-number (near x) false _ (near-is x a (u .0) (u .1) (u .2));
       reaches = omega arith;
       few = omega arith;
       from-below = λ t. let r = from-below x a (u .0) (u .1) (u .2) t in

@@ -4,16 +4,16 @@
 use mathlib.Core.Path.{_≡_, refl, sym, ap, subst}
 use mathlib.Core.Bool.{Bool, true, false, not, cond, true≢false, _&&_}
 use Prim.Native.Nat.{ℕ, zero, suc, _+_, _-_, _*_, _/_, _^_, _≤_, _<_, pow·suc}
-use native.Mathlib.Nat.{le-trans, le-of-eq, le-of-lt, lt-of-le-of-lt, lt-of-lt-of-le, min-le-left, min-eq-left, div-le-self, div-mul-le-self, lt-div-mul-add, mul-le-mul-right, le-of-mul-le-mul-right, lt-of-mul-lt-mul-right, mul-pos, zero-mul}
+use native.Mathlib.Nat.{le-trans, le-of-eq, lt-of-le-of-lt, lt-of-lt-of-le, min-le-left, min-eq-left, div-le-self, div-mul-le-self, lt-div-mul-add, mul-le-mul-right, le-of-mul-le-mul-right, lt-of-mul-lt-mul-right, mul-lt-mul-of-pos-right, mul-pos, zero-mul}
 use native.Mathlib.Omega.{arith}
 use lib.Dec.{T, ltb, ltb→lt, lt→ltb, nltb→le, lit<, lit≤}
 use lib.IntN.{ℤ, pos, negsuc}
-use lib.Ieee.{Float, nan, inf, fin, Format, binary64, up, down, ofInt, toUnsigned, round, lt, fits}
+use lib.Ieee.{Float, nan, inf, fin, Format, binary64, up, down, ofInt, toUnsigned, lt, fits}
 use lib.Ieee.Fits.{and-i, down-pos}
 use Rattle.floats.specs.Float.{f-1}
 use Rattle.floats.proofs.Rounding.{rnd, rnd-fix}
-use Rattle.floats.proofs.Rounding.Units.{U, O, U-pos, Is, nn, fits-parts, round-units, over, over'}
-use Rattle.floats.proofs.Rounding.NonNegative.{Fine}
+use Rattle.floats.proofs.Rounding.Units.{U, O, U-pos, Is, nn, fits-parts, over, over'}
+use Rattle.floats.proofs.Rounding.NonNegative.{Fine, int-is}
 use Rattle.numbers.specs.DenseSpectrum.{ceiling}
 
 abbrev B : Format
@@ -54,16 +54,6 @@ pub top-O : 2 ^ 53 * U < O
 unfolding U O
 top-O = lit< tt
 
-pub whole-is : (k : ℕ) → k < 2 ^ 53 → Is (ofInt binary64 (pos k)) false (k * U)
-unfolding ofInt
-whole-is k h =
-    let held = held-whole k h in
-    let r = round-units false k 1 (lt-of-le-of-lt (le-of-eq held) (lt-of-le-of-lt (mul-le-mul-right U (le-of-lt h)) top-O)) in
-    subst (λ (z : ℕ). Is (round B false k 1) false z) held r
-
-pub times : (x y u : ℕ) → x < y → 0 < u → x * u < y * u
-times x y u h p = let m = mul-le-mul-right u h in omega arith
-
 -- `<` by units, of values that are not negative
 pub lt-units : (x y : Float) (a b : ℕ) → Is x false a → Is y false b → (T (lt x y) → a < b) × (T (not (lt x y)) → b ≤ a)
 unfolding lt
@@ -76,7 +66,7 @@ lt-units (fin false m e) (fin false n d) a b i k =
     let dd0 = mul-pos (down-pos e) (down-pos d) in
     let ex : x * U ≡ a * dd = over (m * up e) a (down e) (down d) (i .1) in
     let ey : y * U ≡ b * dd = over' (n * up d) b (down e) (down d) (k .1) in (
-      λ (t : T (ltb x y)). lt-of-mul-lt-mul-right dd (lt-of-le-of-lt (le-of-eq (sym ex)) (lt-of-lt-of-le (times x y U (ltb→lt x y t) U-pos) (le-of-eq ey))),
+      λ (t : T (ltb x y)). lt-of-mul-lt-mul-right dd (lt-of-le-of-lt (le-of-eq (sym ex)) (lt-of-lt-of-le (mul-lt-mul-of-pos-right (ltb→lt x y t) U-pos) (le-of-eq ey))),
       λ (t : T (not (ltb x y))). le-of-mul-le-mul-right {k = dd} (le-trans (le-of-eq (sym ey)) (le-trans (mul-le-mul-right U (nltb→le x y t)) (le-of-eq ex))) dd0,
     )
 
@@ -91,7 +81,7 @@ floor-low n a c d u v h p = le-of-mul-le-mul-right {k = d} (omega (arith, mul-le
 
 floor-high : (n a c d u : ℕ) → a * u ≡ n * d → a < c * d + d → 0 < u → n < c * u + u
 floor-high n a c d u v h p =
-    lt-of-mul-lt-mul-right d (omega (arith, times a (c * d + d) u h p))
+    lt-of-mul-lt-mul-right d (omega (arith, mul-lt-mul-of-pos-right h p))
 
 pub ceiling-is : (q : Float) (n : ℕ) → Fine q n → n ≤ 2 ^ 52 * U → (n ≤ ceiling q * U) × (ceiling q * U < n + U)
 unfolding ceiling lt toUnsigned
@@ -101,7 +91,7 @@ ceiling-is (fin true m e) n h l =
     let q = fin true m e in
     let z : n ≡ 0 = subst (λ (b : Bool). nn b n ≡ 0) (sym (h .1 .0)) (h .2) in
     let o = ofInt binary64 (pos 0) in
-    let k-is = none (lt f-1 q && lt q (fin false 1 (pos 64))) (lt o q) (lt-negative o (0 * U) m e (whole-is 0 (lit< tt))) in
+    let k-is = none (lt f-1 q && lt q (fin false 1 (pos 64))) (lt o q) (lt-negative o (0 * U) m e (int-is 0 (lit≤ tt))) in
     subst (λ (k : ℕ). (n ≤ k * U) × (k * U < n + U)) (sym k-is)
     (le-trans (le-of-eq z) (omega arith), lt-of-le-of-lt (le-of-eq (zero-mul U)) (lt-of-lt-of-le U-pos (omega arith)))
   where
@@ -119,7 +109,7 @@ ceiling-is (fin false m e) n h l =
     let low = floor-low n a c d U v (div-mul-le-self a d) d0 in
     let high = floor-high n a c d U v (lt-div-mul-add d0) U-pos in
     let few : c ≤ 2 ^ 52 = le-of-mul-le-mul-right {k = U} (le-trans low l) U-pos in
-    let order = lt-units (ofInt binary64 (pos c)) q (c * U) n (whole-is c (lt-of-le-of-lt few (lit< tt))) (refl, v) in
+    let order = lt-units (ofInt binary64 (pos c)) q (c * U) n (int-is c (le-trans few (lit≤ tt))) (refl, v) in
     let above : T (lt f-1 q) = lt→ltb 0 (1 * 1 * d + a * 1) (omega arith) in
     let below : T (lt q (fin false 1 (pos 64))) = lt→ltb (a * 1) (1 * 2 ^ 64 * d) (under a c d few (lt-div-mul-add d0)) in
     let both = and-i (lt f-1 q) (lt q (fin false 1 (pos 64))) above below in
