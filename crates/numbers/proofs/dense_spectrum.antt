@@ -3,4 +3,5 @@ pub mod Every
 pub mod WholePart
 pub mod SmallCeiling
 pub mod Interpolation
+pub mod Spacing
 pub mod SampleFrom

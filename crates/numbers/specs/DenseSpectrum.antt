@@ -7,7 +7,7 @@ use lib.ListN.{length, getD}
 use lib.Ieee.{Float, nan, fin, binary64, toUnsigned, ofInt, lt, eq}
 use Rattle.floats.specs.Float.{_⊕_, _⊖_, _⊗_, _⊘_, f0, f1, f-1, within, isFinite}
 
--- ---- the table, which 02 (i) changes
+-- ---- the tables
 -- wavelengths from 360 to 830, in nanometres
 abbrev pub lambdaMin : Float
 lambdaMin = fin false 45 (pos 3)
@@ -15,12 +15,23 @@ lambdaMin = fin false 45 (pos 3)
 abbrev pub lambdaMax : Float
 lambdaMax = fin false 415 (pos 1)
 
--- 95 entries, 5 apart
+-- lumo's has 95 entries, 5 apart (`SAMPLES`, `STEP`)
 abbrev pub denseSamples : ℕ
 denseSamples = 95
 
 abbrev pub denseStep : Float
 denseStep = fin false 5 (pos 0)
+
+-- the finer one 471, 1 apart (02 (i))
+abbrev pub fineSamples : ℕ
+fineSamples = 471
+
+abbrev pub fineStep : Float
+fineStep = f1
+
+-- how far apart a table's entries are: their number tells
+unfoldable pub stepOf : List Float → Float
+stepOf values = cond (eqb (length values) fineSamples) fineStep denseStep
 
 -- ---- what is accepted
 -- from the table's start to this: 02 (viii) moves it past the table's end
@@ -64,7 +75,7 @@ sampleOneAt step values lambda =
     (interpolate (upperWeight step lambda) (entry values (upperPoint step lambda - 1)) (entry values (upperPoint step lambda))))
 
 unfoldable pub sampleOne : List Float → Float → Float
-sampleOne values lambda = sampleOneAt denseStep values lambda
+sampleOne values lambda = sampleOneAt (stepOf values) values lambda
 
 -- ---- what holds of every entry
 unfoldable pub every : (Float → Bool) → List Float → Bool
@@ -84,7 +95,11 @@ allFinite values = every isFinite values
 -- ---- limits
 -- as many entries as a table has
 unfoldable pub isTable : List Float → Bool
-isTable values = eqb (length values) denseSamples
+isTable values = eqb (length values) denseSamples || eqb (length values) fineSamples
+
+-- two spectra of one spacing: as many entries of each
+unfoldable pub oneSpacing : List Float → List Float → Bool
+oneSpacing values others = eqb (length values) (length others)
 
 -- a wavelength that the table reaches
 unfoldable pub inTable : Float → Bool

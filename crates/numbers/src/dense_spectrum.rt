@@ -10,7 +10,7 @@ ghost use lib.Ieee.{nan, fin, binary64, ofInt, lt, eq};
 ghost use lib.ListN.{getD};
 ghost use Rattle.floats.specs.Float.{f1};
 ghost use Rattle.numbers.specs.GridPoint.{gridPoint, sampleFrom};
-ghost use Rattle.numbers.specs.DenseSpectrum.{ceiling, interpolate, sampleOne, every, isConstant, allWithin, allFinite, isTable, isWavelength, isLookupWavelength};
+ghost use Rattle.numbers.specs.DenseSpectrum.{ceiling, interpolate, sampleOne, every, isConstant, allWithin, allFinite, isTable, oneSpacing, stepOf, isWavelength, isLookupWavelength};
 
 // The range of wavelengths of a table, in nanometres.
 pub const LAMBDA_MIN: f64 = 360.0;
@@ -20,14 +20,28 @@ pub const LAMBDA_MAX: f64 = 830.0;
 // The last wavelength that is accepted: for now where the table ends.
 pub const ACCEPTED_MAX: f64 = LAMBDA_MAX;
 
-// Spectrum sampled at 5nm steps from 360nm to 830nm
+// Spectrum sampled at 5nm or at 1nm steps from 360nm to 830nm
 pub struct DenseSpectrum {}
 
 impl DenseSpectrum {
-    // How many entries, and how far apart.
+    // How many entries, and how far apart: lumo's, and of the finer table.
     pub const SAMPLES: usize = 95;
 
     pub const STEP: f64 = 5.0;
+
+    pub const FINE_SAMPLES: usize = 471;
+
+    pub const FINE_STEP: f64 = 1.0;
+
+    // How far apart the entries are: their number tells.
+    pub fn step(values: &[f64]) -> f64
+        ensures { λ r. ⌜ r ≡ stepOf (now (values .entry)) ⌝ }
+    {
+        if values.len() == DenseSpectrum::FINE_SAMPLES {
+            return DenseSpectrum::FINE_STEP;
+        }
+        DenseSpectrum::STEP
+    }
 
     // Are all entries equal?
     pub fn is_constant(values: &[f64]) -> bool
@@ -40,7 +54,8 @@ impl DenseSpectrum {
     pub fn sample_one(values: &[f64], lambda: f64) -> f64
         ensures { λ r. ⌜ r ≡ sampleOne (now (values .entry)) lambda ⌝ }
     {
-        DenseSpectrum::sample_from(values, GridPoint::new(lambda))
+        let step = DenseSpectrum::step(values);
+        DenseSpectrum::sample_from(values, GridPoint::new(step, lambda))
     }
 
     // The same, from the wavelength's place among the grid points.
@@ -60,8 +75,8 @@ impl DenseSpectrum {
     }
 }
 
-// Where a wavelength lies among the grid points, which is found once for spectra that are read at one
-// wavelength: `ended` for one that was ended, `exact` at the wavelength of the entry `upper`, and
+// Where a wavelength lies among the grid points, which is found once for spectra of one spacing that are
+// read at one wavelength: `ended` for one that was ended, `exact` at the wavelength of the entry `upper`, and
 // `weight` how far it lies from the entry before.
 pub struct GridPoint {
     pub ended: bool,
@@ -71,16 +86,16 @@ pub struct GridPoint {
 }
 
 impl GridPoint {
-    pub fn new(lambda: f64) -> GridPoint
-        ensures { λ r. ⌜ r ≡ gridPoint lambda ⌝ }
+    pub fn new(step: f64, lambda: f64) -> GridPoint
+        ensures { λ r. ⌜ r ≡ gridPoint step lambda ⌝ }
     {
-        let b1 = ceiling((lambda - LAMBDA_MIN) / DenseSpectrum::STEP);
-        let l1 = LAMBDA_MIN + DenseSpectrum::STEP * b1.value;
+        let b1 = ceiling((lambda - LAMBDA_MIN) / step);
+        let l1 = LAMBDA_MIN + step * b1.value;
         GridPoint {
             ended: lambda == 0.0,
             exact: lambda == l1,
             upper: b1.number,
-            weight: (lambda - (l1 - DenseSpectrum::STEP)) / DenseSpectrum::STEP,
+            weight: (lambda - (l1 - step)) / step,
         }
     }
 }
@@ -227,7 +242,14 @@ pub fn all_finite(values: &[f64]) -> bool
 pub fn is_table(values: &[f64]) -> bool
     ensures { λ r. ⌜ r ≡ isTable (now (values .entry)) ⌝ }
 {
-    values.len() == DenseSpectrum::SAMPLES
+    values.len() == DenseSpectrum::SAMPLES || values.len() == DenseSpectrum::FINE_SAMPLES
+}
+
+// Whether two spectra have one spacing: as many entries of each.
+pub fn one_spacing(values: &[f64], others: &[f64]) -> bool
+    ensures { λ r. ⌜ r ≡ oneSpacing (now (values .entry)) (now (others .entry)) ⌝ }
+{
+    values.len() == others.len()
 }
 
 // Whether a path may start with the wavelength.

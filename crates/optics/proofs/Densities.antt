@@ -157,7 +157,7 @@ density-of-not-below Glass a eta k reflection wo wi h = dielectric-not-below a e
 
 pub density-not-below : (m : Microsurface) (wo wi : Vec3) (reflection : Bool) (lambda : Float) → AllFit (m .eta) → AllFit (m .k)
     → T (fits B lambda)
-    → T (etaHolds (m .eta)) → T (kHolds (m .kind) (m .k)) → T (isWavelength lambda)
+    → T (etaHolds (m .eta)) → T (kHolds (m .kind) (m .eta) (m .k)) → T (isWavelength lambda)
     → T (isFinite (pdf m wo wi reflection lambda)) → T (le f0 (pdf m wo wi reflection lambda))
 unfolding pdf
 density-not-below m wo wi reflection lambda fits-eta fits-k fits-lambda eta-holds k-holds w f =
@@ -172,5 +172,5 @@ density-not-below m wo wi reflection lambda fits-eta fits-k fits-lambda eta-hold
     on-glass : m .kind ≡ Glass → Index eta × T (eq k f0)
     on-glass e = (
       eta-index (m .eta) lambda fits-eta eta-holds fits-lambda w,
-      glass-k-zero (m .k) lambda fits-k (subst (λ (kind : Kind). T (kHolds kind (m .k))) e k-holds) fits-lambda w,
+      glass-k-zero (m .eta) (m .k) lambda fits-k eta-holds (subst (λ (kind : Kind). T (kHolds kind (m .eta) (m .k))) e k-holds) fits-lambda w,
     )

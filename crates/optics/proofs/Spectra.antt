@@ -6,23 +6,24 @@ use mathlib.Core.Logic.{inl, inr}
 use mathlib.Core.Bool.{Bool·beq, Bool, true, false, _||_, cond}
 use mathlib.Core.List.{List}
 use Prim.Native.Nat.{ℕ, zero, suc, _-_, _*_, _≤_, _<_, zero-le}
-use native.Mathlib.Nat.{le-trans, le-of-eq, lt-of-le-of-lt, lt-of-lt-of-le, not-le-of-lt, mul-pos, zero-lt-suc}
+use native.Mathlib.Nat.{le-trans, le-of-eq, lt-of-le-of-lt, not-le-of-lt, mul-pos, zero-lt-suc}
 use native.Mathlib.Omega.{arith}
-use lib.Dec.{T, eqb, eqb→eq, lit<}
+use lib.Dec.{T, eqb, lit<}
 use lib.ListN.{length}
 use lib.Ieee.{Float, nan, inf, fin, Format, binary64, up, down, le, eq, fits}
 use lib.Ieee.Fits.{and-l, and-r, and-i, eq→eqb, div-fits, sub-fits}
 use Rattle.floats.proofs.Rounding.{rnd}
 use Rattle.floats.proofs.Rounding.Units.{U, O, U-pos, U-O, either}
 use Rattle.floats.proofs.Rounding.NonNegative.{Ext, Fine, mul-ext, add-ext, nil-ext, fine-of, rnd-zero, share-of}
-use Rattle.numbers.proofs.dense_spectrum.Interpolation.{Read, Index, read-index, AllFit, Place, range-of, dense-place, sample-index, wave-in-table}
+use Rattle.numbers.proofs.dense_spectrum.Interpolation.{Read, Index, read-index, AllFit, Place, range-of, Table, table-of, table-place, sample-index, wave-in-table}
 use Rattle.floats.proofs.Rounding.Shares.{shares}
 use Rattle.floats.specs.Float.{_⊕_, _⊖_, _⊗_, f0, f1, decimal, within}
-use Rattle.numbers.specs.DenseSpectrum.{denseSamples, isTable, denseStep, terminated, entry, interpolate, upperPoint, upperLambda, upperWeight, sampleOneAt, sampleOne, allWithin, isWavelength}
+use Rattle.numbers.specs.DenseSpectrum.{stepOf, isTable, oneSpacing, terminated, entry, interpolate, upperPoint, upperLambda, upperWeight, sampleOneAt, sampleOne, allWithin, isWavelength}
 use Rattle.optics.specs.Surface.{etaMin, etaMax, etaHolds, allZero, kEntriesHold, kHolds, etaAt, kAt}
 use Rattle.optics.specs.declared.microfacet.Kind.the-variants.{Glass}
 use Rattle.floats.proofs.Rounding.Sizes.{f0-upto, f0-parts, fine-N}
 use Rattle.numbers.proofs.dense_spectrum.Every.{entry-every}
+use Rattle.numbers.proofs.dense_spectrum.Spacing.{shared-table}
 
 abbrev B : Format
 B = binary64
@@ -34,11 +35,11 @@ max-is = refl
 
 pub eta-read : (eta : List Float) (lambda : Float) → AllFit eta → T (etaHolds eta) → T (fits B lambda) → T (isWavelength lambda)
     → Read (etaAt eta lambda)
-unfolding etaHolds isTable etaMin etaAt
+unfolding etaHolds etaMin etaAt
 eta-read eta lambda all holds f w =
-    let entries = eqb→eq (length eta) denseSamples (and-l (eqb (length eta) denseSamples) (allWithin (decimal 1 100) etaMax eta) holds) in
-    let limits = and-r (eqb (length eta) denseSamples) (allWithin (decimal 1 100) etaMax eta) holds in
-    sample-index lambda eta f (wave-in-table lambda w) entries all (subst (λ (hi : Float). T (allWithin (decimal 1 100) hi eta)) max-is limits)
+    let table = and-l (isTable eta) (allWithin (decimal 1 100) etaMax eta) holds in
+    let limits = and-r (isTable eta) (allWithin (decimal 1 100) etaMax eta) holds in
+    sample-index lambda eta f (wave-in-table lambda w) table all (subst (λ (hi : Float). T (allWithin (decimal 1 100) hi eta)) max-is limits)
 
 pub eta-index : (eta : List Float) (lambda : Float) → AllFit eta → T (etaHolds eta) → T (fits B lambda) → T (isWavelength lambda)
     → Index (etaAt eta lambda)
@@ -92,44 +93,52 @@ zero-between x i₀ i₁ f low high h₀ h₁ =
     let sum = add-ext (i₀ ⊗ y) (i₁ ⊗ x) 0 0 (zero-product i₀ y (b .0) h₀ (b .1)) (zero-product i₁ x (a .0) h₁ (a .1)) in
     subst (λ (n : ℕ). Ext (i₀ ⊗ y ⊕ i₁ ⊗ x) n) (rnd-zero 1 (lit< tt)) sum
 
-zero-sample : (k : List Float) (w : Float) → AllFit k → length k ≡ denseSamples → T (allZero k) → T (fits B w) → T (isWavelength w)
+zero-sample : (k : List Float) (w : Float) → AllFit k → T (isTable k) → T (allZero k) → T (fits B w) → T (isWavelength w)
     → Zero (sampleOne k w)
 unfolding sampleOne sampleOneAt allZero allWithin upperWeight
-zero-sample k w all len z f h = ended (eq w terminated)
+zero-sample k w all table z f h = ended (eq w terminated)
   where
-    place : Place denseStep w 94
-    place = dense-place w f (wave-in-table w h)
+    t : Table k
+    t = table-of k table
+
+    step : Float
+    step = stepOf k
+
+    place : Place step w (t .n)
+    place = table-place w k t f (wave-in-table w h)
 
     j : ℕ
-    j = upperPoint denseStep w
+    j = upperPoint step w
 
-    at : (i : ℕ) → i ≤ 94 → Fine (entry k i) 0
-    at i l =
-        let inside = lt-of-le-of-lt l (lt-of-lt-of-le (lit< {m = 94} {n = 95} tt) (le-of-eq (sym len))) in
-        zero-entry (entry k i) (all i) (entry-every (within f0 f0) k i z inside)
+    at : (i : ℕ) → i ≤ t .n → Fine (entry k i) 0
+    at i l = zero-entry (entry k i) (all i) (entry-every (within f0 f0) k i z (inside i (t .n) (length k) l (t .entries)))
+      where
+        inside : (i n m : ℕ) → i ≤ n → m ≡ suc n → i < m
+        inside i n m l e = omega arith
 
-    below : (n : ℕ) → n ≤ 94 → n - 1 ≤ 94
-    below n l = omega arith
+    below : (i n : ℕ) → i ≤ n → i - 1 ≤ n
+    below i n l = omega arith
 
     x : Float
-    x = upperWeight denseStep w
+    x = upperWeight step w
 
-    between : (b : Bool) → eq w (upperLambda denseStep w) ≡ b → Zero (cond b (entry k j) (interpolate x (entry k (j - 1)) (entry k j)))
+    between : (b : Bool) → eq w (upperLambda step w) ≡ b → Zero (cond b (entry k j) (interpolate x (entry k (j - 1)) (entry k j)))
     between true e = inl (lt-of-le-of-lt zero-le U-O, at j (place .last))
     between false e =
         let s = place .weight (place .inner e) in
-        let fx = div-fits B (w ⊖ (upperLambda denseStep w ⊖ denseStep)) denseStep in
-        zero-between x (entry k (j - 1)) (entry k j) fx (s .1) (s .2) (at (j - 1) (below j (place .last))) (at j (place .last))
+        let fx = div-fits B (w ⊖ (upperLambda step w ⊖ step)) step in
+        zero-between x (entry k (j - 1)) (entry k j) fx (s .1) (s .2) (at (j - 1) (below j (t .n) (place .last))) (at j (place .last))
 
-    ended : (b : Bool) → Zero (cond b f0 (cond (eq w (upperLambda denseStep w)) (entry k j) (interpolate x (entry k (j - 1)) (entry k j))))
+    ended : (b : Bool) → Zero (cond b f0 (cond (eq w (upperLambda step w)) (entry k j) (interpolate x (entry k (j - 1)) (entry k j))))
     ended true = nil-ext
-    ended false = between (eq w (upperLambda denseStep w)) refl
+    ended false = between (eq w (upperLambda step w)) refl
 
 -- on glass k is all zero
-pub glass-k-zero : (k : List Float) (lambda : Float) → AllFit k → T (kHolds Glass k) → T (fits B lambda) → T (isWavelength lambda)
+pub glass-k-zero : (eta k : List Float) (lambda : Float) → AllFit k → T (etaHolds eta) → T (kHolds Glass eta k) → T (fits B lambda) → T (isWavelength lambda)
     → T (eq (kAt k lambda) f0)
-unfolding kHolds kEntriesHold isTable kAt
-glass-k-zero k lambda all holds f w =
-    let entries = eqb→eq (length k) denseSamples (and-l (eqb (length k) denseSamples) (allZero k) holds) in
-    let zeros = and-r (eqb (length k) denseSamples) (allZero k) holds in
-    zero-eq (sampleOne k lambda) (zero-sample k lambda all entries zeros f w)
+unfolding etaHolds kHolds kEntriesHold kAt
+glass-k-zero eta k lambda all eta-holds k-holds f w =
+    let spacing = and-l (oneSpacing eta k) (allZero k) k-holds in
+    let zeros = and-r (oneSpacing eta k) (allZero k) k-holds in
+    let table = shared-table eta k spacing (and-l (isTable eta) (allWithin etaMin etaMax eta) eta-holds) in
+    zero-eq (sampleOne k lambda) (zero-sample k lambda all table zeros f w)

@@ -7,9 +7,9 @@ use Rattle.numbers.specs.Refusal.{Verdict, refuse, _then_}
 use Rattle.optics.specs.Surface.{Kind, Microsurface, roughnessHolds, etaHolds, kHolds, isEta}
 use Rattle.optics.specs.Color.{Color, all4}
 
--- what a surface holds beside its roughness: 2 eta, 3 k
+-- what a surface holds beside its roughness: 2 eta, 3 k, a length unlike eta's included
 unfoldable pub checkSpectra : Kind → List Float → List Float → Verdict
-checkSpectra kind eta k = refuse 2 (etaHolds eta) then refuse 3 (kHolds kind k)
+checkSpectra kind eta k = refuse 2 (etaHolds eta) then refuse 3 (kHolds kind eta k)
 
 -- the fields of a surface: 1 roughness, then its spectra
 unfoldable pub checkSurface : Microsurface → Verdict

@@ -5,7 +5,7 @@ use lib.Ieee.{Float, fin}
 use lib.IntN.{pos}
 use lib.Dec.{eqb, leb}
 use Rattle.floats.specs.Float.{f0, f1, decimal, max, within}
-use Rattle.numbers.specs.DenseSpectrum.{isTable, sampleOne, isConstant, allWithin}
+use Rattle.numbers.specs.DenseSpectrum.{isTable, oneSpacing, sampleOne, isConstant, allWithin}
 use Rattle.numbers.specs.Vec2.{splat}
 use Rattle.numbers.specs.declared.vec2.Vec2.{Vec2}
 pub use Rattle.optics.specs.declared.microfacet.{Kind.Kind, Kind.the-variants.Metal, Kind.the-variants.Glass, Surface.Surface}
@@ -71,8 +71,9 @@ unfoldable pub kEntriesHold : Kind → List Float → Bool
 kEntriesHold Metal k = allZero k || allWithin kMin kMax k
 kEntriesHold Glass k = allZero k
 
-unfoldable pub kHolds : Kind → List Float → Bool
-kHolds kind k = isTable k && kEntriesHold kind k
+-- eta and k share one spacing (02 (i))
+unfoldable pub kHolds : Kind → List Float → List Float → Bool
+kHolds kind eta k = oneSpacing eta k && kEntriesHold kind k
 
 -- ---- the spectra at a wavelength: the one place where eta is read, and where it counts as constant
 unfoldable pub etaAt : List Float → Float → Float

@@ -69,17 +69,18 @@ fn k_entries_hold(kind: Kind, k: &[f64]) -> bool
     }
 }
 
-fn k_holds(kind: Kind, k: &[f64]) -> bool
-    ensures { λ r. ⌜ r ≡ kHolds kind (now (k .entry)) ⌝ }
+// As many entries as eta has, and within their limits.
+fn k_holds(kind: Kind, eta: &[f64], k: &[f64]) -> bool
+    ensures { λ r. ⌜ r ≡ kHolds kind (now (eta .entry)) (now (k .entry)) ⌝ }
 {
-    dense_spectrum::is_table(k) && k_entries_hold(kind, k)
+    dense_spectrum::one_spacing(eta, k) && k_entries_hold(kind, k)
 }
 
 // What a surface holds beside its roughness.
 pub fn check_spectra(kind: Kind, eta: &[f64], k: &[f64]) -> Check
     ensures { λ r. ⌜ verdict r ≡ checkSpectra kind (now (eta .entry)) (now (k .entry)) ⌝ }
 {
-    refuse(Refusal::Eta, eta_holds(eta)).then(refuse(Refusal::K, k_holds(kind, k)))
+    refuse(Refusal::Eta, eta_holds(eta)).then(refuse(Refusal::K, k_holds(kind, eta, k)))
 }
 
 // The fields of a surface.

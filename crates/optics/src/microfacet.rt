@@ -6,6 +6,7 @@ use floats::square_root::sqrt;
 use floats::square_root::sqrt_or_zero;
 use numbers::EPSILON;
 use numbers::complex::Complex;
+use numbers::dense_spectrum;
 use numbers::dense_spectrum::DenseSpectrum;
 use numbers::dense_spectrum::GridPoint;
 use numbers::vec2::Vec2;
@@ -95,14 +96,20 @@ pub struct OpticalConstants {
     pub k: f64,
 }
 
-// Both, from the wavelength's one place among the grid points.
+// Both. The spectra of a surface share one spacing, and so the wavelength's place among the grid points.
 pub fn optical_constants(eta: &[f64], k: &[f64], wl: f64) -> OpticalConstants
     ensures { λ r. ⌜ (r .eta ≡ etaAt (now (eta .entry)) wl) × (r .k ≡ kAt (now (k .entry)) wl) ⌝ }
 {
-    let point = GridPoint::new(wl);
+    if dense_spectrum::one_spacing(eta, k) {
+        let point = GridPoint::new(DenseSpectrum::step(eta), wl);
+        return OpticalConstants {
+            eta: DenseSpectrum::sample_from(eta, point),
+            k: DenseSpectrum::sample_from(k, point),
+        };
+    }
     OpticalConstants {
-        eta: DenseSpectrum::sample_from(eta, point),
-        k: DenseSpectrum::sample_from(k, point),
+        eta: eta_at(eta, wl),
+        k: k_at(k, wl),
     }
 }
 

@@ -17,7 +17,7 @@ use Rattle.path.specs.Bounce.{checkBounce, checkRest}
 pub record Accepted (p : Path) (m : Microsurface) (b : Bounce) : Type 0 where
   pub roughness : T (roughnessHolds (m .roughness))
   pub eta : T (etaHolds (m .eta))
-  pub k : T (kHolds (m .kind) (m .k))
+  pub k : T (kHolds (m .kind) (m .eta) (m .k))
   pub lambda : T (isPathLambda (p .lambda))
   pub power : T (all4 isPower (p .power))
   pub wo : T (isDirection (b .wo))

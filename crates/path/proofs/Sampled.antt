@@ -118,7 +118,9 @@ module _ (p : Path) (m : Microsurface) (b : Bounce) (h : Given p m b) where
   index = eta-index (m .eta) (leading (lambdaOn m (p .lambda))) (all-fit (m .eta) (h .step .eta)) (h .ok .eta) leading-fits leading-in
 
   no-k : m .kind ≡ Glass → T (eq (kAt (m .k) (leading (lambdaOn m (p .lambda)))) f0)
-  no-k g = glass-k-zero (m .k) (leading (lambdaOn m (p .lambda))) (all-fit (m .k) (h .step .k)) (subst (λ (kind : Kind). T (kHolds kind (m .k))) g (h .ok .k)) leading-fits leading-in
+  no-k g =
+      glass-k-zero (m .eta) (m .k) (leading (lambdaOn m (p .lambda))) (all-fit (m .k) (h .step .k)) (h .ok .eta)
+      (subst (λ (kind : Kind). T (kHolds kind (m .eta) (m .k))) g (h .ok .k)) leading-fits leading-in
 
   below-one : T (lt (b .u) f1)
   unfolding isRandom

@@ -15,7 +15,7 @@ use Rattle.numbers.specs.Vec3.{vec3, Z, dot, floatMul, divFloat, negate, length
 use Rattle.numbers.specs.Vec3 as V3
 use Rattle.numbers.specs.Onb.{slope, skew, basis, toLocal, toWorld}
 use Rattle.numbers.specs.SphericalUtils.{cosTheta, sameHemisphere}
-use Rattle.numbers.specs.DenseSpectrum.{ceiling, upperPoint, upperLambda, upperWeight, interpolate, sampleOneAt, sampleOne, every, isConstant, allWithin, isWavelength, isLookupWavelength, isTable}
+use Rattle.numbers.specs.DenseSpectrum.{stepOf, ceiling, upperPoint, upperLambda, upperWeight, interpolate, sampleOneAt, sampleOne, every, isConstant, allWithin, isWavelength, isLookupWavelength, isTable, oneSpacing}
 use Rattle.numbers.specs.declared.vec2.Vec2.{Vec2}
 use Rattle.numbers.specs.declared.vec3.Vec3.{Vec3}
 use Rattle.numbers.proofs.Samples as Numbers
@@ -63,7 +63,7 @@ record Reads (values : List Float) (x : Float) : Type 0 where
   r3 : sampleOne values l3 ≡ x
 
 reads : (x : Float) → Reads (constant x) x
-unfolding sampleOne sampleOneAt upperPoint upperLambda upperWeight ceiling interpolate add sub mul div lt eq ofInt toUnsigned
+unfolding stepOf sampleOne sampleOneAt upperPoint upperLambda upperWeight ceiling interpolate add sub mul div lt eq ofInt toUnsigned
 reads x = record { r0 = refl; r1 = refl; r2 = refl; r3 = refl }
 
 -- ---- the checks
@@ -92,20 +92,24 @@ length-holds : (x : Float) → isTable (constant x) ≡ true
 unfolding isTable
 length-holds x = refl
 
+spacing-holds : (x y : Float) → oneSpacing (constant x) (constant y) ≡ true
+unfolding oneSpacing
+spacing-holds x y = refl
+
 eta-holds : (x : Float) → within etaMin etaMax x ≡ true → etaHolds (constant x) ≡ true
 unfolding etaHolds allWithin
 eta-holds x h = rw (length-holds x, every-replicate (within etaMin etaMax) x h 95)
 
-metal-k-holds : kHolds Metal (constant f2) ≡ true
+metal-k-holds : (x : Float) → kHolds Metal (constant x) (constant f2) ≡ true
 unfolding kHolds kEntriesHold allWithin within kMin decimal le
-metal-k-holds = rw (length-holds f2, every-replicate (within kMin kMax) f2 refl 95, or-true)
+metal-k-holds x = rw (spacing-holds x f2, every-replicate (within kMin kMax) f2 refl 95, or-true)
 
-glass-k-holds : kHolds Glass (constant f0) ≡ true
+glass-k-holds : (x : Float) → kHolds Glass (constant x) (constant f0) ≡ true
 unfolding kHolds kEntriesHold allZero allWithin within le
-glass-k-holds = rw (length-holds f0, every-replicate (within f0 f0) f0 refl 95)
+glass-k-holds x = rw (spacing-holds x f0, every-replicate (within f0 f0) f0 refl 95)
 
 surface-holds :
-    (m : Microsurface) → roughnessHolds (m .roughness) ≡ true → etaHolds (m .eta) ≡ true → kHolds (m .kind) (m .k) ≡ true →
+    (m : Microsurface) → roughnessHolds (m .roughness) ≡ true → etaHolds (m .eta) ≡ true → kHolds (m .kind) (m .eta) (m .k) ≡ true →
     checkSurface m ≡ accepted
 unfolding checkSurface checkSpectra _then_ refuse
 surface-holds m r e k = rw (r, e, k)
@@ -320,13 +324,13 @@ metal-accepted : (x : Float) → isPower x ≡ true → checkBounce (path grid (
 unfolding surface within etaMin decimal le
 metal-accepted x p =
     checks deltaMetal x f0
-    (surface-holds deltaMetal smooth-holds (eta-holds f1 refl) metal-k-holds) p disk-holds
+    (surface-holds deltaMetal smooth-holds (eta-holds f1 refl) (metal-k-holds f1)) p disk-holds
 
 glass-accepted : (u : Float) → isRandom u ≡ true → checkBounce (path grid (all f1)) deltaGlass (along u) ≡ accepted
 unfolding surface within etaMin decimal isPower le
 glass-accepted u r =
     checks deltaGlass f1 u
-    (surface-holds deltaGlass smooth-holds (eta-holds f3 refl) glass-k-holds) refl r
+    (surface-holds deltaGlass smooth-holds (eta-holds f3 refl) (glass-k-holds f3)) refl r
 
 glass-constant : constantEta (constant f3) ≡ true
 unfolding constantEta isConstant eq

@@ -9,7 +9,8 @@ use mathlib.Core.List.{List}
 use Prim.Native.Nat.{ℕ, zero, suc, _+_, _-_, _*_, _/_, _^_, _≤_, _<_}
 use native.Mathlib.Nat.{le-refl, le-trans, le-of-eq, le-of-lt, lt-of-le-of-lt, lt-of-lt-of-le, lt-irrefl, not-le-of-lt, mul-le-mul-right, mul-le-mul-left, le-of-mul-le-mul-right, lt-of-mul-lt-mul-right, mul-lt-mul-of-pos-right, mul-pos, mul-comm, mul-assoc, div-lt-iff-lt-mul, one-mul, zero-mul, mul-zero, le-antisymm}
 use native.Mathlib.Omega.{arith}
-use lib.Dec.{T, eqb, lit≤, lit<}
+use mir.Facts.{or-yes}
+use lib.Dec.{T, eqb, eqb→eq, lit≤, lit<}
 use lib.IntN.{pos}
 use lib.ListN.{length}
 use lib.Pow.{pow-add, pow-pos, pow-mono}
@@ -27,8 +28,9 @@ use Rattle.numbers.proofs.vec3.UnitVector.{sum-err}
 use Rattle.floats.proofs.Rounding.Sizes.{fine-N, pos-of, zero-N}
 use Rattle.numbers.proofs.dense_spectrum.Every.{entry-every}
 use Rattle.numbers.proofs.dense_spectrum.WholePart.{held-whole, ceiling-is}
+use Rattle.numbers.proofs.dense_spectrum.Spacing.{dense-step, fine-step}
 use Rattle.floats.specs.Float.{_⊕_, _⊖_, _⊗_, _⊘_, f0, f1, decimal, within}
-use Rattle.numbers.specs.DenseSpectrum.{lambdaMin, lambdaMax, denseSamples, denseStep, terminated, entry, interpolate, upperPoint, upperLambda, upperWeight, sampleOneAt, sampleOne, allWithin, inTable, isWavelength}
+use Rattle.numbers.specs.DenseSpectrum.{lambdaMin, lambdaMax, denseSamples, fineSamples, stepOf, terminated, entry, interpolate, upperPoint, upperLambda, upperWeight, sampleOneAt, sampleOne, allWithin, isTable, inTable, isWavelength}
 
 abbrev B : Format
 B = binary64
@@ -711,21 +713,37 @@ pub sample-index-at : (step w : Float) (s n : ℕ) (values : List Float) → Gri
 sample-index-at step w s n values g i f h e a t =
     read-nearly (sampleOneAt step values w) (sample-nearly step w (decimal 1 100) (decimal 100 1) s n values g i f h eta-limits e a t)
 
--- the table of the model: 95 entries, 5 apart
-pub dense-step : Is denseStep false (5 * U)
-dense-step = (refl, omega arith)
+-- ---- a table's length tells its step and its last index
+pub record Table (values : List Float) : Type 0 where
+  pub s : ℕ
+  pub n : ℕ
+  pub grid : Grid s n
+  pub step : Is (stepOf values) false (s * U)
+  pub entries : length values ≡ suc n
 
-pub dense-place : (w : Float) → T (fits B w) → T (inTable w) → Place denseStep w 94
-dense-place w f h = place-of denseStep w 5 94 grid-5 dense-step f h
+dense-table : (values : List Float) → length values ≡ denseSamples → Table values
+dense-table values e =
+    let step = subst (λ (x : Float). Is x false (5 * U)) (sym (dense-step values e)) (refl, omega arith) in
+    record { s = 5; n = 94; grid = grid-5; step = step; entries = e }
+
+fine-table : (values : List Float) → length values ≡ fineSamples → Table values
+fine-table values e =
+    let step = subst (λ (x : Float). Is x false (1 * U)) (sym (fine-step values e)) (refl, omega arith) in
+    record { s = 1; n = 470; grid = grid-1; step = step; entries = e }
+
+pub table-of : (values : List Float) → T (isTable values) → Table values
+unfolding isTable
+table-of values h = elim (or-yes (eqb (length values) denseSamples) (eqb (length values) fineSamples) h) [
+  | inl dense ↦ dense-table values (eqb→eq (length values) denseSamples dense)
+  | inr fine ↦ fine-table values (eqb→eq (length values) fineSamples fine)
+]
+
+pub table-place : (w : Float) (values : List Float) (t : Table values) → T (fits B w) → T (inTable w) → Place (stepOf values) w (t .n)
+table-place w values t f h = place-of (stepOf values) w (t .s) (t .n) (t .grid) (t .step) f h
 
 pub sample-index : (w : Float) (values : List Float) → T (fits B w) → T (inTable w)
-    → length values ≡ denseSamples → AllFit values → T (allWithin (decimal 1 100) (decimal 100 1) values) → Read (sampleOne values w)
+    → T (isTable values) → AllFit values → T (allWithin (decimal 1 100) (decimal 100 1) values) → Read (sampleOne values w)
 unfolding sampleOne
-sample-index w values f h e a t = sample-index-at denseStep w 5 94 values grid-5 dense-step f h e a t
-
--- and of 471 entries, 1 apart
-pub unit-step : Is f1 false (1 * U)
-unit-step = (refl, omega arith)
-
-pub unit-place : (w : Float) → T (fits B w) → T (inTable w) → Place f1 w 470
-unit-place w f h = place-of f1 w 1 470 grid-1 unit-step f h
+sample-index w values f h table a l =
+    let t = table-of values table in
+    sample-index-at (stepOf values) w (t .s) (t .n) values (t .grid) (t .step) f h (t .entries) a l

@@ -7,5 +7,5 @@ use Rattle.optics.proofs.check.k_holds.Tie as tie
 pub k-holds-spec : {M : Type 1} → statement M
 unfolding kHolds
 k-holds-spec = tie.close (tie.spec (λ c κs. search needs) (λ c κs. search needs)
-    (λ c. rw (← c .before .before .is-table .ensures, c .before .if1 .taken, ← c .k-entries-hold .ensures))
-    (λ c. rw (← c .before .is-table .ensures, c .if1 .left)))
+    (λ c. rw (← c .before .before .one-spacing .ensures, c .before .if1 .taken, ← c .k-entries-hold .ensures))
+    (λ c. rw (← c .before .one-spacing .ensures, c .if1 .left)))

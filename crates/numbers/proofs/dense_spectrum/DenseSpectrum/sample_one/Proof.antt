@@ -5,7 +5,7 @@ use Rattle.numbers.proofs.dense_spectrum.DenseSpectrum.sample_one.State
 use Rattle.numbers.proofs.dense_spectrum.DenseSpectrum.sample_one.Tie as tie
 
 returns : tie.Need-returns
-returns c = rw (c .sample-from .ensures, c .before .new .ensures) (sample-from-point _ _)
+returns c = rw (c .sample-from .ensures, c .before .new .ensures, c .before .before .step .ensures) (sample-from-point _ _)
 
 pub sample-one-spec : {M : Type 1} → statement M
-sample-one-spec = tie.close (tie.spec (λ c κs. search needs) (λ c κs. search needs) returns)
+sample-one-spec = tie.close (tie.spec (λ c κs. search needs) (λ c κs. search needs) (λ c κs. search needs) returns)

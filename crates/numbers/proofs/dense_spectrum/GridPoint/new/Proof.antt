@@ -2,12 +2,12 @@
 use lib.Ieee.{ofBits}
 use borrow.Author.Needs.{needs}
 use Rattle.numbers.specs.DenseSpectrum.{upperPoint, upperLambda, upperWeight}
-use Rattle.numbers.specs.GridPoint.{gridPoint, gridPointAt}
+use Rattle.numbers.specs.GridPoint.{gridPoint}
 use Rattle.numbers.proofs.dense_spectrum.GridPoint.new.Statement.{statement}
 use Rattle.numbers.proofs.dense_spectrum.GridPoint.new.Tie as tie
 
 returns : tie.Need-returns
-unfolding gridPoint gridPointAt upperPoint upperLambda upperWeight ofBits
+unfolding gridPoint upperPoint upperLambda upperWeight ofBits
 returns c = let b1 = c .before .ceiling .ensures in rw (← b1 .1, ← b1 .0)
 
 pub new-spec : {M : Type 1} → statement M
