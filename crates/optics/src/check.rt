@@ -60,10 +60,10 @@ fn k_entries_hold(kind: Kind, k: &[f64]) -> bool
 {
     match kind {
         Kind::Metal => {
-            if all_zero(k) {
+            if dense_spectrum::all_within(k, K_MIN, K_MAX) {
                 return true;
             }
-            dense_spectrum::all_within(k, K_MIN, K_MAX)
+            all_zero(k)
         }
         Kind::Glass => all_zero(k),
     }

@@ -3,7 +3,7 @@
 -- computed from its definition; a stage puts leaves together by `rw`, for any roughness and spectra that are delta and read so.
 use Prim.Native.Nat.{ℕ, zero, suc}
 use mathlib.Core.Path.{_≡_, refl}
-use mathlib.Core.Bool.{Bool, true, false, _||_}
+use mathlib.Core.Bool.{Bool, true, false, _||_, or-true}
 use mathlib.Core.List.{List}
 use lib.IntN.{pos}
 use lib.ListN.{replicate}
@@ -71,10 +71,6 @@ every-replicate : (p : Float → Bool) (x : Float) → p x ≡ true → (n : ℕ
 unfolding every
 every-replicate p x h zero = refl
 every-replicate p x h (suc n) = rw (h, every-replicate p x h n)
-
-or-true : (b : Bool) → (b || true) ≡ true
-or-true true = refl
-or-true false = refl
 
 -- roughness 0, raised to 1e-5
 abbrev smooth : Vec2
