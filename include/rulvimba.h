@@ -74,11 +74,18 @@ typedef struct { double s0, s1, s2, s3; } rulvimba_color;
 enum { RULVIMBA_METAL = 0, RULVIMBA_GLASS = 1 };
 
 /*
+ * How many entries a spectrum has, which tells how far apart they are: 95 at 360 nm, 365 nm, .. 830 nm, or
+ * 471 at 360 nm, 361 nm, .. 830 nm.
+ */
+enum { RULVIMBA_SAMPLES = 95, RULVIMBA_FINE_SAMPLES = 471 };
+
+/*
  * A surface. Its two spectra, the refraction index eta and the absorption coefficient k, are lent
- * beside it in each call, as a pointer and a length: 95 entries, at 360 nm, 365 nm, .. 830 nm.
+ * beside it in each call, as a pointer and a length. They have one spacing: as many entries of each. No
+ * spacing is kept with a surface, so other calls may lend it spectra of the other.
  * Every call that takes a surface first checks it: roughness x and y from 1e-5 to 1, else 1, and a kind
- * that is neither RULVIMBA_METAL nor RULVIMBA_GLASS is 1 too; 95 entries of eta from 0.01 to 100, else 2;
- * 95 entries of k, all of them 0 or, on metal alone, all of them from 1e-6 to 100, else 3.
+ * that is neither RULVIMBA_METAL nor RULVIMBA_GLASS is 1 too; 95 or 471 entries of eta from 0.01 to 100,
+ * else 2; as many entries of k, all of them 0 or, on metal alone, all of them from 1e-6 to 100, else 3.
  */
 typedef struct {
     uint64_t kind;
@@ -183,7 +190,7 @@ size_t rulvimba_bounces(rulvimba_surface surface, const double *eta, size_t eta_
 
 /*
  * A spectrum's value at a wavelength, and 0 at wavelength 0. Refused: 2 for a length other than 95 or
- * an entry that is not finite; 4 for a wavelength that is neither 0 nor from 360 to 830.
+ * 471 or an entry that is not finite; 4 for a wavelength that is neither 0 nor from 360 to 830.
  */
 rulvimba_float_result rulvimba_lookup(const double *values, size_t values_len, double lambda);
 

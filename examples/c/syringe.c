@@ -14,10 +14,12 @@
 
 #include "rulvimba.h"
 
-#define ENTRIES 95
+#define ENTRIES RULVIMBA_SAMPLES
+#define FINE RULVIMBA_FINE_SAMPLES
 #define MANY 1000
 
 static double glass_eta[ENTRIES], glass_k[ENTRIES], steel_eta[ENTRIES], steel_k[ENTRIES];
+static double fine_eta[FINE], fine_k[FINE];
 static double input[MANY * RULVIMBA_BOUNCE_IN], output[MANY * RULVIMBA_BOUNCE_OUT];
 
 static uint64_t bits(double x) {
@@ -159,6 +161,10 @@ int main(int argc, char **argv) {
         steel_eta[i] = 2.0 + 0.01 * i;
         steel_k[i] = 3.0 + 0.01 * i;
     }
+    for (int i = 0; i < FINE; i++) {
+        fine_eta[i] = 1.53 - 0.00004 * i; /* the same glass, 1 nm apart */
+        fine_k[i] = 0.0;
+    }
     rulvimba_surface glass = make(RULVIMBA_GLASS, 0.0, glass_eta, glass_k);
     rulvimba_surface rough_glass = make(RULVIMBA_GLASS, 0.2, glass_eta, glass_k);
     rulvimba_surface steel = make(RULVIMBA_METAL, 0.3, steel_eta, steel_k);
@@ -196,10 +202,18 @@ int main(int argc, char **argv) {
     printf("a start at 200 nm: %" PRIu64 "\n", rulvimba_start(&path, (rulvimba_color){200.0, 530.0, 610.0, 690.0}));
     print_path(&path);
 
+    /* the barrel's glass by a table at 1 nm: the surface is the same, the tables are lent */
+    rulvimba_start(&path, (rulvimba_color){450.5, 530.5, 610.5, 690.5});
+    r = rulvimba_bounce(&path, glass, fine_eta, FINE, fine_k, FINE, barrel);
+    print_bounce("glass barrel, 1 nm", r, &path);
+    printf("eta at 1 nm and k at 5 nm: %" PRIu64 "\n", rulvimba_check_surface(glass, fine_eta, FINE, glass_k, ENTRIES));
+
     /* terms */
     rulvimba_vec3 z = {0.0, 0.0, 1.0}, w = {0.0, 0.6, 0.8};
     rulvimba_float_result f = rulvimba_lookup(glass_eta, ENTRIES, 589.3);
     printf("lookup: %" PRIu64 " %.6f; ", f.number, f.value);
+    f = rulvimba_lookup(fine_eta, FINE, 589.3);
+    printf("at 1 nm: %" PRIu64 " %.6f; ", f.number, f.value);
     f = rulvimba_lookup(glass_eta, 94, 589.3);
     printf("of 94 entries: %" PRIu64 "\n", f.number);
     f = rulvimba_lambda(steel, steel_eta, ENTRIES, steel_k, ENTRIES, w);

@@ -29,6 +29,10 @@ pub struct Vec2 {
 pub const METAL: u64 = 0;
 pub const GLASS: u64 = 1;
 
+/// How many entries a spectrum has, 5 nm or 1 nm apart.
+pub const SAMPLES: usize = 95;
+pub const FINE_SAMPLES: usize = 471;
+
 #[repr(C)]
 #[derive(Clone, Copy, Debug, Default, PartialEq)]
 pub struct Surface {
@@ -140,7 +144,7 @@ mod c {
     }
 }
 
-/// The spectra of a surface, which are lent with it in each call.
+/// The spectra of a surface, which are lent with it in each call: as many entries of each.
 #[derive(Clone, Copy)]
 pub struct Spectra<'a> {
     pub eta: &'a [f64],

@@ -116,11 +116,14 @@ fn many(surface: Surface, s: Spectra) {
 }
 
 fn main() {
-    let table = |f: fn(f64) -> f64| -> Vec<f64> { (0..95).map(|i| f(i as f64)).collect() };
+    let table_of = |entries: usize, f: fn(f64) -> f64| -> Vec<f64> { (0..entries).map(|i| f(i as f64)).collect() };
+    let table = |f: fn(f64) -> f64| table_of(SAMPLES, f);
     let glass_eta = table(|i| 1.53 - 0.0002 * i); // disperses a little
     let glass_k = table(|_| 0.0);
     let steel_eta = table(|i| 2.0 + 0.01 * i);
     let steel_k = table(|i| 3.0 + 0.01 * i);
+    let fine_eta = table_of(FINE_SAMPLES, |i| 1.53 - 0.00004 * i); // the same glass, 1 nm apart
+    let fine_k = table_of(FINE_SAMPLES, |_| 0.0);
     let of_glass = Spectra { eta: &glass_eta, k: &glass_k };
     let of_steel = Spectra { eta: &steel_eta, k: &steel_k };
     let glass = make(GLASS, 0.0, of_glass);
@@ -158,10 +161,18 @@ fn main() {
     println!("a start at 200 nm: {}", start(&mut path, four(200.0, 530.0, 610.0, 690.0)));
     print_path(&path);
 
+    // the barrel's glass by a table at 1 nm: the surface is the same, the tables are lent
+    start(&mut path, four(450.5, 530.5, 610.5, 690.5));
+    let r = bounce(&mut path, glass, Spectra { eta: &fine_eta, k: &fine_k }, barrel);
+    print_bounce("glass barrel, 1 nm", r, &path);
+    println!("eta at 1 nm and k at 5 nm: {}", check_surface(glass, Spectra { eta: &fine_eta, k: &glass_k }));
+
     // terms
     let (z, w) = (v(0.0, 0.0, 1.0), v(0.0, 0.6, 0.8));
     let f = lookup(&glass_eta, 589.3);
-    println!("lookup: {} {:.6}; of 94 entries: {}", f.number, f.value, lookup(&glass_eta[..94], 589.3).number);
+    print!("lookup: {} {:.6}; ", f.number, f.value);
+    let f = lookup(&fine_eta, 589.3);
+    println!("at 1 nm: {} {:.6}; of 94 entries: {}", f.number, f.value, lookup(&glass_eta[..94], 589.3).number);
     let print = |name: &str, f: Answer<f64>| println!("{name}: {} {:.6}", f.number, f.value);
     print("lambda", lambda(steel, of_steel, w));
     print("g1", g1(steel, of_steel, w, z));
