@@ -1,6 +1,6 @@
 -- The lookup of a spectrum at a wavelength from 360 to 830, on a grid of n equal whole steps that satisfies `Grid`: 94 steps of 5 do (`grid-5`), and 470 of 1 (`grid-1`).
 -- Proved: the entries that `sampleOneAt` reads exist, between grid points there is one on either side, and the weight of the upper one is from 0 to 1 (`place-of`);
--- where all entries are from lo to hi, the value lies in that range up to one part in 2 ^ 50 (`sample-nearly`); with entries from 0.01 to 100 it is from 1 / 128 to 128 (`sample-index`, for any such grid `sample-index-at`), which is inside the range of an index (`read-index`).
+-- where all entries are from lo to hi, the value lies in that range up to one part in 2 ^ 50 (`sample-nearly`); with entries from 0.01 to 100 it is from 1 / 128 to 128 (`sample-index`, for any such grid `sample-index-at`), which is inside the range of an index (`read-index`). A table's length leads to its grid (`table-of`, `table-place`).
 -- A wavelength from 256 on is a multiple of 2 ^ -44, so one that is above a grid point is that far above, and the quotient by the step does not round down onto the point's index.
 use mathlib.Core.Path.{_≡_, refl, sym, ap, _∙_, subst}
 use mathlib.Core.Logic.{inl, inr}
