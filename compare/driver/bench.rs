@@ -4,7 +4,7 @@ use super::inputs::Rng;
 use super::library::{run_bounces, Lent};
 use super::numbers::{basis_calls, root_calls, BasisCalls, RootCall};
 use super::optics::{of_surface_calls, OfSurface};
-use super::path::{plain, plain_many, surface_of, usual_bounce, usual_path, usual_surface, words_in, Bounce, Bounced, Path, INS, OUTS};
+use super::path::{plain, plain_many, surfaces_of, usual_bounce, usual_path, usual_surface, words_in, Bounce, Bounced, Path, INS, OUTS};
 use super::surfaces::Surface;
 use super::Function;
 use crate::Vec3;
@@ -16,20 +16,34 @@ fn line(name: &str, here: f64, rust: f64) {
     println!("{name:<46} {here:>8.2} {rust:>8.2} {:>6.2}", here / rust);
 }
 
-/// The least times of several passes of two loops on the same data, each first in every other pass.
-fn least<T>(rng: &mut Rng, fresh: fn(&mut Rng) -> T, here: impl Fn(&[T]) -> f64, rust: impl Fn(&[T]) -> f64) -> (f64, f64) {
-    let mut least = (f64::INFINITY, f64::INFINITY);
+/// Both sides on 95 entries, then on 471, and what this is of that.
+fn lines(name: &str, [here, rust, fine_here, fine_rust]: [f64; 4]) {
+    line(&format!("{name}, 95 entries"), here, rust);
+    let [grown_here, grown_rust] = [fine_here / here, fine_rust / rust];
+    println!(
+        "{:<46} {fine_here:>8.2} {fine_rust:>8.2} {:>6.2}   {grown_here:.3} and {grown_rust:.3} of 95",
+        format!("{name}, 471 entries"),
+        fine_here / fine_rust
+    );
+}
+
+/// The least times of several passes of loops on the same data, each first in its turn.
+fn least_of<T, const N: usize>(rng: &mut Rng, fresh: fn(&mut Rng) -> T, loops: [&dyn Fn(&[T]) -> f64; N]) -> [f64; N] {
+    let mut least = [f64::INFINITY; N];
     for pass in 0..PASSES {
         let data: Vec<T> = (0..SIZE).map(|_| fresh(rng)).collect();
-        for turn in 0..2 {
-            if (pass + turn) % 2 == 0 {
-                least.0 = least.0.min(here(&data));
-            } else {
-                least.1 = least.1.min(rust(&data));
-            }
+        for turn in 0..N {
+            let i = (pass + turn) % N;
+            least[i] = least[i].min(loops[i](&data));
         }
     }
     least
+}
+
+/// The same of a loop here and one in the Rust.
+fn least<T>(rng: &mut Rng, fresh: fn(&mut Rng) -> T, here: impl Fn(&[T]) -> f64, rust: impl Fn(&[T]) -> f64) -> (f64, f64) {
+    let [here, rust] = least_of(rng, fresh, [&here, &rust]);
+    (here, rust)
 }
 
 /// A normal value above 0.
@@ -138,13 +152,16 @@ fn bounces_in_rust(data: &[One], s: &Surface) -> f64 {
     })
 }
 
-/// Bounces on one surface in one call, each on a path of its own.
+/// Bounces on one surface, `n` in one call, each on a path of its own.
 #[inline(never)]
-fn many(data: &[[f64; INS]], s: &Surface, f: fn(&Surface, &[f64], &mut [f64])) -> f64 {
+fn many(data: &[[f64; INS]], s: &Surface, n: usize, f: fn(&Surface, &[f64], &mut [f64])) -> f64 {
+    let data = &data[..data.len() / n * n];
     let mut out = vec![0.0; data.len() * OUTS];
     let f = black_box(f);
     timed(data.len(), || {
-        f(s, data.as_flattened(), &mut out);
+        for (input, output) in data.chunks(n).zip(out.chunks_mut(n * OUTS)) {
+            f(s, input.as_flattened(), output);
+        }
         out
     })
 }
@@ -192,7 +209,7 @@ fn bench_bounces(rng: &mut Rng) {
         let (a, b) = least(rng, two, |d| of_surface(d, &s, here), |d| of_surface(d, &s, rust));
         line(name, a, b);
     }
-    println!("a whole checked bounce");
+    println!("a whole checked bounce; in Rust 471 entries are read by the second reading");
     let one = |rng: &mut Rng| {
         let (path, bounce) = (usual_path(rng), usual_bounce(rng));
         One { here: Lent::new(&path, &bounce), path, bounce }
@@ -205,24 +222,32 @@ fn bench_bounces(rng: &mut Rng) {
         ("delta glass, constant eta", true, false, false),
         ("delta glass, varying eta", true, false, true),
     ] {
-        let s = usual_surface(rng, glass, rough, varying);
-        let (a, b) = least(rng, one, |d| bounces(d, &s), |d| bounces_in_rust(d, &s));
-        line(name, a, b);
+        let [s, fine] = &surfaces_of(rng, glass, rough, varying, !glass);
+        let times: [&dyn Fn(&[One]) -> f64; 4] =
+            [&|d| bounces(d, s), &|d| bounces_in_rust(d, s), &|d| bounces(d, fine), &|d| bounces_in_rust(d, fine)];
+        lines(name, least_of(rng, one, times));
     }
-    println!("each of {SIZE} bounces in one call, the surface checked once on both sides");
+    println!("each of many bounces in one call, the surface checked once on both sides");
     let row = |rng: &mut Rng| words_in(&usual_path(rng), &usual_bounce(rng));
     for (name, glass, rough, varying, absorbs) in [
-        ("many, rough metal", false, true, true, true),
-        ("many, rough metal, k 0", false, true, true, false),
-        ("many, delta metal", false, false, true, true),
-        ("many, rough glass, constant eta", true, true, false, false),
-        ("many, rough glass, varying eta", true, true, true, false),
-        ("many, delta glass, constant eta", true, false, false, false),
-        ("many, delta glass, varying eta", true, false, true, false),
+        ("rough metal", false, true, true, true),
+        ("rough metal, k 0", false, true, true, false),
+        ("delta metal", false, false, true, true),
+        ("rough glass, constant eta", true, true, false, false),
+        ("rough glass, varying eta", true, true, true, false),
+        ("delta glass, constant eta", true, false, false, false),
+        ("delta glass, varying eta", true, false, true, false),
     ] {
-        let s = surface_of(rng, glass, rough, varying, absorbs);
-        let (a, b) = least(rng, row, |d| many(d, &s, run_bounces), |d| many(d, &s, plain_many));
-        line(name, a, b);
+        let [s, fine] = &surfaces_of(rng, glass, rough, varying, absorbs);
+        let (a, b) = least(rng, row, |d| many(d, s, SIZE, run_bounces), |d| many(d, s, SIZE, plain_many));
+        line(&format!("{SIZE}, {name}, 95 entries"), a, b);
+        let times: [&dyn Fn(&[[f64; INS]]) -> f64; 4] = [
+            &|d| many(d, s, 1000, run_bounces),
+            &|d| many(d, s, 1000, plain_many),
+            &|d| many(d, fine, 1000, run_bounces),
+            &|d| many(d, fine, 1000, plain_many),
+        ];
+        lines(&format!("1000, {name}"), least_of(rng, row, times));
     }
     println!("each bounce of a list on one path: metal and glass, rough and delta by turns");
     let s = [(false, true), (true, true), (false, false), (true, false)].map(|(glass, rough)| usual_surface(rng, glass, rough, false));
@@ -250,7 +275,7 @@ pub fn bench(seed: u64, functions: &[Function]) {
     line("basis: Onb::new, then to_local", a, b);
     for f in functions {
         if let Some((a, b)) = f.times(seed, PASSES, SIZE) {
-            line(f.name, a, b);
+            line(&f.entries.map_or(f.name.into(), |n| format!("{}, {n} entries", f.name)), a, b);
         }
     }
     bench_bounces(&mut rng);

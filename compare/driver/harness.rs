@@ -1,6 +1,8 @@
 //! A function of ours beside the Rust's: words in, words out, compared in bits.
 use super::inputs::{Inputs, Rng, Slot};
+use super::judge;
 pub use super::rulvimba::Answer;
+use super::spectra::FINE_SAMPLES;
 use crate::{Vec2, Vec3};
 use std::cell::Cell;
 pub use std::hint::black_box;
@@ -131,6 +133,8 @@ pub struct Function {
     pub name: &'static str,
     /// The record's number in the sample.
     pub number: u32,
+    /// How many entries its spectra have, where it takes any: it settles who judges.
+    pub entries: Option<usize>,
     pub shape: Vec<Slot>,
     pub outs: usize,
     pub here: Call,
@@ -171,6 +175,7 @@ impl Function {
         Self {
             name,
             number,
+            entries: None,
             shape: vec![],
             outs,
             here,
@@ -187,6 +192,11 @@ impl Function {
 
     pub fn ins(&self) -> usize {
         self.shape.len()
+    }
+
+    /// Otherwise the second reading judges.
+    pub fn is_judged_by_rust(&self) -> bool {
+        self.entries != Some(FINE_SAMPLES)
     }
 
     fn inputs(&self, seed: u64, count: usize) -> Inputs {
@@ -226,11 +236,11 @@ impl Function {
             }
             differences += 1;
             if differences <= 3 {
-                println!("  {}\n    in  {}\n    here {}\n    rust {}", self.name, hex_floats(&words), hex(&a), hex(&b));
+                println!("  {}\n    in  {}\n    here  {}\n    judge {}", self.name, hex_floats(&words), hex(&a), hex(&b));
             }
         }
         let left_open = if open > 0 { format!(", {open} zeros whose sign Rust leaves open") } else { String::new() };
-        println!("{:<44} {count:>9} inputs {differences:>6} differences{left_open}", self.name);
+        println!("{:<44} {count:>9} inputs {differences:>6} differences from {}{left_open}", self.name, judge::name(self.entries));
         differences
     }
 

@@ -6,9 +6,11 @@
 //! takes the same records. The other calls stand in the tables of numbers.rs and optics.rs.
 use super::harness::*;
 use super::inputs::{Rng, Slot};
+use super::lengths;
 use super::optics::{other_kind, Color};
 use super::path::{report, rust_start, start_input, walk, words_in, Bounce, Bounced, Density, Lumo, Path, Shares, Subject, INS, OUTS};
 use super::rulvimba::{self, BounceArgs, BounceResult, DirectionResult, Spectra, BOUNCE_IN, BOUNCE_OUT};
+use super::spectra::{FINE_SAMPLES, SAMPLES};
 use super::surfaces::Surface;
 use crate::{Vec2, Vec3};
 
@@ -156,15 +158,19 @@ extern "C" {
     fn path_bounce_on(path: *mut rulvimba::Path, surface: rulvimba::Surface, eta: *const f64, n: usize, k: *const f64, m: usize, b: BounceArgs) -> BounceResult;
 }
 
-/// path's thin form. How often memory was not as it must be.
+/// path's thin form.
+pub fn thin(p: &mut rulvimba::Path, s: rulvimba::Surface, of: Spectra, b: BounceArgs) -> BounceResult {
+    unsafe { path_bounce_on(p, s, of.eta.as_ptr(), of.eta.len(), of.k.as_ptr(), of.k.len(), b) }
+}
+
+/// How often memory was not as it must be.
 struct Thin(usize);
 
 impl Subject for Thin {
     const NAME: &'static str = "path_bounce_on";
 
     fn bounce(&mut self, p: &Path, _: usize, of: &Lumo, b: &Bounce, _: Option<&Bounced>) -> (Bounced, [u64; OUTS]) {
-        let call: OnPath = |p, s, of, b| unsafe { path_bounce_on(p, s, of.eta.as_ptr(), of.eta.len(), of.k.as_ptr(), of.k.len(), b) };
-        on_path(Self::NAME, call, &mut self.0, of.surface.glass as u64, &of.surface, p, b)
+        on_path(Self::NAME, thin, &mut self.0, of.surface.glass as u64, &of.surface, p, b)
     }
 }
 
@@ -262,7 +268,7 @@ impl Many<'_> {
         if let (true, Some((o, row))) = (print, wrong.first()) {
             println!("  rulvimba_bounces, kind {}, roughness {}", of.kind, hex_floats(&[of.roughness.x, of.roughness.y]));
             println!("    eta {}\n    k   {}", hex_floats(spectra.eta), hex_floats(spectra.k));
-            println!("    in  {}\n    here {}\n    rust {}", hex_floats(&row.input), hex_floats(o), hex_floats(&row.output));
+            println!("    in  {}\n    here  {}\n    judge {}", hex_floats(&row.input), hex_floats(o), hex_floats(&row.output));
         }
         if print && (n != self.count() || past || changed) {
             println!("  rulvimba_bounces: answers {n} for {} bounces; wrote past them: {past}; wrote to its input: {changed}", self.count());
@@ -362,22 +368,26 @@ impl Subject for Library {
     }
 }
 
-pub fn compare_thin(seed: u64, count: usize) -> usize {
+pub fn compare_thin(seed: u64, n: usize, count: usize) -> usize {
     let mut thin = Thin(0);
-    let c = walk(seed, count, &mut thin);
+    let c = walk(seed, n, count, &mut thin);
     c.print(Thin::NAME);
     println!("  differences in memory {}", thin.0);
     c.differences + thin.0
 }
 
-/// How many bounces were run, and the differences.
-pub fn compare_bounces(seed: u64, count: usize) -> (usize, usize) {
+/// How many bounces were run on surfaces of `n` entries, and the differences.
+pub fn compare_bounces(seed: u64, n: usize, count: usize) -> (usize, usize) {
     let mut library = Library::new(seed);
-    let c = walk(seed, count, &mut library);
+    let c = walk(seed, n, count, &mut library);
     c.print(Library::NAME);
     println!("  on kinds that are neither metal nor glass {}; differences there and in memory that must be kept {}", library.other_kinds, library.aside);
-    println!("{:<44} {:>9} bounces {:>5} differences, in {} calls", "rulvimba_bounces", library.many, library.many_differences, library.calls);
-    (c.bounces, c.differences + library.aside + library.many_differences)
+    println!(
+        "{:<44} {:>9} bounces {:>5} differences from {}, in {} calls",
+        "rulvimba_bounces", library.many, library.many_differences, c.judges(), library.calls
+    );
+    let run = if n == FINE_SAMPLES { c.fine } else { c.bounces };
+    (run, c.differences + library.aside + library.many_differences)
 }
 
 // ---- starts
@@ -408,8 +418,8 @@ pub fn compare_starts(seed: u64, count: usize) -> usize {
 
 // ---- all of it
 
-/// `bounces` bounces through both calls, and a tenth as many inputs for each of the others; answers the number
-/// of differences.
+/// `bounces` bounces through both calls on 95 entries, and a tenth as many on 471 and for each of the other calls;
+/// answers the number of differences.
 pub fn compare(seed: u64, bounces: usize) -> usize {
     let each = bounces / 10;
     let mut others = each;
@@ -419,9 +429,13 @@ pub fn compare(seed: u64, bounces: usize) -> usize {
         others += each;
     }
     differences += compare_starts(seed, each);
-    let (run, of_bounces) = compare_bounces(seed, bounces);
-    differences += of_bounces;
-    println!("compare: librulvimba: {run} bounces, {others} other calls, {differences} differences, seed {seed}");
+    differences += lengths::compare();
+    let (run, of_bounces) = compare_bounces(seed, SAMPLES, bounces);
+    let (run_fine, of_fine) = compare_bounces(seed, FINE_SAMPLES, each);
+    differences += of_bounces + of_fine;
+    println!(
+        "compare: librulvimba: {run} bounces on 95 entries, {run_fine} on 471, {others} other calls, {differences} differences, seed {seed}"
+    );
     differences
 }
 

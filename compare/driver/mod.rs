@@ -10,10 +10,13 @@ mod bench_rays;
 mod harness;
 mod inputs;
 mod job;
+mod judge;
+mod lengths;
 mod library;
 mod numbers;
 mod optics;
 mod path;
+mod reading;
 mod root;
 #[path = "../../examples/rust/rulvimba.rs"]
 mod rulvimba;
@@ -21,6 +24,7 @@ mod spectra;
 mod surfaces;
 
 use harness::Function;
+use spectra::{FINE_SAMPLES, SAMPLES};
 
 /// A family of functions is a file of this driver.
 fn families() -> Vec<Function> {
@@ -30,13 +34,16 @@ fn families() -> Vec<Function> {
 }
 
 fn compare(seed: u64, count: usize) -> usize {
-    let mut differences = 0;
+    let mut differences = numbers::reading_beside_rust().compare(seed, count);
     for f in families() {
         differences += f.compare(seed, count);
     }
+    differences += lengths::compare();
     differences += library::compare_starts(seed, count);
-    differences += library::compare_bounces(seed, count * 5).1;
-    differences += library::compare_thin(seed, count * 5);
+    for (entries, bounces) in [(SAMPLES, count * 5), (FINE_SAMPLES, count)] {
+        differences += library::compare_bounces(seed, entries, bounces).1;
+        differences += library::compare_thin(seed, entries, bounces);
+    }
     differences + root::compare(seed, count.max(1_000_000))
 }
 
@@ -79,5 +86,5 @@ pub fn main() {
         println!("compare: {differences} differences");
         std::process::exit(1);
     }
-    println!("compare: every answer equals the Rust's (seed {seed})");
+    println!("compare: every answer is its judge's, the Rust's or the second reading's (seed {seed})");
 }

@@ -1,9 +1,11 @@
 //! The crates `floats` and `numbers` beside lumo's floats, vectors, complex numbers, bases and angles.
 use super::harness::*;
 use super::inputs::{Rng, Slot};
+use super::judge::{self, spectrum};
+use super::reading;
 use super::rulvimba;
-use super::spectra::{self, MOST, SAMPLES};
-use super::surfaces::is_direction;
+use super::spectra::{self, FINE_SAMPLES, MORE, SAMPLES};
+use super::surfaces::{is_direction, is_length, is_lookup};
 use crate::functions;
 use crate::math::{complex::Complex, spherical_utils};
 use crate::stand_in::{half_angle, Powi};
@@ -256,13 +258,12 @@ extern "C" {
     fn numbers_dense_spectrum_is_lookup_wavelength(lambda: f64) -> bool;
 }
 
-type Lookup = extern "C-unwind" fn(*const f64, usize, f64) -> f64;
-
-/// lumo's spectrum over entries that stand elsewhere: its one field is the array.
-pub fn spectrum(values: &[f64]) -> &DenseSpectrum {
-    assert!(values.len() == SAMPLES && size_of::<DenseSpectrum>() == size_of::<[f64; SAMPLES]>());
-    unsafe { &*values.as_ptr().cast() }
+/// The lookup without checks, of a table and a wavelength that are taken.
+pub fn sample_one(values: &[f64], lambda: f64) -> f64 {
+    unsafe { numbers_dense_spectrum_sample_one(values.as_ptr(), values.len(), lambda) }
 }
+
+type Lookup = extern "C-unwind" fn(*const f64, usize, f64) -> f64;
 
 #[inline(never)]
 extern "C-unwind" fn rust_sample_one(values: *const f64, _n: usize, lambda: f64) -> f64 {
@@ -270,171 +271,208 @@ extern "C-unwind" fn rust_sample_one(values: *const f64, _n: usize, lambda: f64)
     spectrum.sample_one(lambda)
 }
 
-/// ns for a lookup, in one spectrum, at the last word of each input.
 #[inline(never)]
-fn time_lookup(data: &[f64], f: Lookup) -> f64 {
-    let values = &data[..SAMPLES];
-    let lambdas: Vec<f64> = data.chunks(SAMPLES + 1).map(|c| c[SAMPLES]).collect();
+extern "C-unwind" fn read_sample_one(values: *const f64, n: usize, lambda: f64) -> f64 {
+    let values = unsafe { std::slice::from_raw_parts(values, n) };
+    reading::sample_one(values, reading::step(values), lambda)
+}
+
+/// ns for a lookup, in one spectrum of `N` entries, at the last word of each input.
+#[inline(never)]
+fn time_lookup<const N: usize>(data: &[f64], f: Lookup) -> f64 {
+    let values = &data[..N];
+    let lambdas: Vec<f64> = data.chunks(N + 1).map(|c| c[N]).collect();
     let mut out = vec![0.0; lambdas.len()];
     let f = black_box(f);
     timed(lambdas.len(), || {
         for (o, lambda) in out.iter_mut().zip(&lambdas) {
-            *o = f(values.as_ptr(), SAMPLES, *lambda);
+            *o = f(values.as_ptr(), N, *lambda);
         }
         out
     })
 }
 
-/// 95 entries, then a wavelength that the Rust takes.
-fn lookup_source(rng: &mut Rng, _i: usize, w: &mut [f64]) {
-    spectra::entries(rng, &mut w[..SAMPLES]);
-    w[SAMPLES] = spectra::wavelength(rng);
+/// `N` entries, then a wavelength that is taken.
+fn lookup_source<const N: usize>(rng: &mut Rng, _i: usize, w: &mut [f64]) {
+    spectra::entries(rng, &mut w[..N]);
+    w[N] = spectra::wavelength(rng, N);
 }
 
-/// A number of entries, the entries, then two limits.
-fn entries_source(rng: &mut Rng, i: usize, w: &mut [f64]) {
-    let n = if i % 4 == 0 { i / 4 % (MOST + 1) } else { SAMPLES };
+/// Where the words behind the entries begin in an input that begins with their number.
+const fn behind(n: usize) -> usize {
+    1 + n + MORE
+}
+
+/// A number of entries, `N` or any up to a few more, the entries, then two limits.
+fn entries_source<const N: usize>(rng: &mut Rng, i: usize, w: &mut [f64]) {
+    let n = if i % 4 == 0 { i / 4 % behind(N) } else { N };
     w.fill(0.0);
     w[0] = n as f64;
     spectra::entries(rng, &mut w[1..n + 1]);
     let limits = [[0.01, 100.0], [1e-6, 100.0], [0.0, 0.0], [-f64::INFINITY, f64::INFINITY], [f64::NAN, 1.0]];
-    w[MOST + 1..].copy_from_slice(&limits[rng.below(limits.len())]);
+    w[behind(N)..].copy_from_slice(&limits[rng.below(limits.len())]);
 }
 
-fn lookup_bench(rng: &mut Rng, _: &[Slot], w: &mut [f64]) {
+fn lookup_bench<const N: usize>(rng: &mut Rng, _: &[Slot], w: &mut [f64]) {
     w.iter_mut().for_each(|v| *v = rng.between(0.01, 100.0));
-    w[SAMPLES] = rng.between(360.0, 830.0);
+    w[N] = rng.between(360.0, 830.0);
 }
 
 fn any_wavelength_source(rng: &mut Rng, i: usize, w: &mut [f64]) {
-    w[0] = spectra::any_wavelength(rng, i);
+    w[0] = spectra::any_wavelength(rng, i, SAMPLES);
 }
 
-/// The checked lookup by document 01: 2, then 4 where the Rust panics.
+/// The checked lookup by documents 01 and 02 (i): 2, then 4, on 95 entries where the Rust panics.
 fn rust_lookup(values: &[f64], lambda: f64) -> Answer<f64> {
     let refused = |number| Answer { number, value: 0.0 };
-    if values.len() != SAMPLES || !values.iter().all(|v| v.is_finite()) {
+    if !is_length(values.len()) || !values.iter().all(|v| v.is_finite()) {
         return refused(2);
     }
-    if panics(|| spectrum(values).sample_one(lambda)) {
+    let taken = if values.len() == SAMPLES { !panics(|| spectrum(values).sample_one(lambda)) } else { is_lookup(lambda) };
+    if !taken {
         return refused(4);
     }
-    Answer { number: 0, value: spectrum(values).sample_one(lambda) }
+    Answer { number: 0, value: judge::sample_one(values, lambda) }
 }
 
 /// A number of entries, the entries, a wavelength of any kind, and nothing.
-fn checked_lookup_source(rng: &mut Rng, i: usize, w: &mut [f64]) {
-    entries_source(rng, i, w);
+fn checked_lookup_source<const N: usize>(rng: &mut Rng, i: usize, w: &mut [f64]) {
+    entries_source::<N>(rng, i, w);
     // mostly entries that are taken
     if i % 8 > 2 {
-        w[0] = SAMPLES as f64;
-        w[1..=SAMPLES].iter_mut().for_each(|v| *v = rng.between(-100.0, 100.0));
+        w[0] = N as f64;
+        w[1..=N].iter_mut().for_each(|v| *v = rng.between(-100.0, 100.0));
     }
-    w[MOST + 1] = spectra::any_wavelength(rng, i / 8);
+    w[behind(N)] = spectra::any_wavelength(rng, i / 8, N);
 }
 
 /// A function of entries: `call` is given them, and the words after them.
-fn of_entries(
+fn of_entries<const N: usize>(
     name: &'static str,
     number: u32,
     here: fn(&[f64], &[f64]) -> bool,
     rust: fn(&[f64], &[f64]) -> bool,
 ) -> Function {
-    fn call(f: fn(&[f64], &[f64]) -> bool) -> Call {
-        Box::new(move |w, out| f(&w[1..1 + w[0] as usize], &w[MOST + 1..]).put(out))
+    fn call<const N: usize>(f: fn(&[f64], &[f64]) -> bool) -> Call {
+        Box::new(move |w, out| f(&w[1..1 + w[0] as usize], &w[behind(N)..]).put(out))
     }
     Function {
-        shape: vec![Slot::Float; MOST + 3],
-        source: Some(entries_source),
-        ..Function::new(name, number, 1, call(here), call(rust))
+        entries: Some(N),
+        shape: vec![Slot::Float; behind(N) + 2],
+        source: Some(entries_source::<N>),
+        ..Function::new(name, number, 1, call::<N>(here), call::<N>(rust))
     }
 }
 
-fn spectrum_functions() -> Vec<Function> {
-    let lookup = Function {
+/// The second reading at 95 entries, where the Rust can judge it.
+pub fn reading_beside_rust() -> Function {
+    Function {
+        entries: Some(SAMPLES),
         shape: vec![Slot::Float; SAMPLES + 1],
-        source: Some(lookup_source),
+        source: Some(lookup_source::<SAMPLES>),
+        ..Function::new(
+            "the second reading itself",
+            0,
+            2,
+            Box::new(|w, out| {
+                let values = &w[..SAMPLES];
+                out[0] = bits(reading::sample_one(values, reading::step(values), w[SAMPLES]));
+                out[1] = reading::is_constant(values) as u64;
+            }),
+            Box::new(|w, out| {
+                let values = spectrum(&w[..SAMPLES]);
+                out[0] = bits(values.sample_one(w[SAMPLES]));
+                out[1] = values.is_constant() as u64;
+            }),
+        )
+    }
+}
+
+/// The functions of tables of `N` entries.
+fn spectrum_functions<const N: usize>() -> Vec<Function> {
+    let lookup = Function {
+        entries: Some(N),
+        shape: vec![Slot::Float; N + 1],
+        source: Some(lookup_source::<N>),
         time_here: Some(Box::new(|data| {
             let f: unsafe extern "C" fn(*const f64, usize, f64) -> f64 = numbers_dense_spectrum_sample_one;
-            time_lookup(data, unsafe { std::mem::transmute(f) })
+            time_lookup::<N>(data, unsafe { std::mem::transmute(f) })
         })),
-        time_rust: Some(Box::new(|data| time_lookup(data, rust_sample_one))),
-        bench: lookup_bench,
+        time_rust: Some(Box::new(|data| time_lookup::<N>(data, if N == SAMPLES { rust_sample_one } else { read_sample_one }))),
+        bench: lookup_bench::<N>,
         ..Function::new(
             "numbers_dense_spectrum_sample_one",
             701,
             1,
-            Box::new(|w, out| unsafe { numbers_dense_spectrum_sample_one(w.as_ptr(), SAMPLES, w[SAMPLES]) }.put(out)),
-            Box::new(|w, out| spectrum(&w[..SAMPLES]).sample_one(w[SAMPLES]).put(out)),
-        )
-    };
-    // the Rust takes a wavelength, 0 aside, where its lookup doesn't panic
-    let wavelength = Function {
-        shape: vec![Slot::Float],
-        source: Some(any_wavelength_source),
-        ..Function::new(
-            "numbers_dense_spectrum_is_wavelength",
-            705,
-            1,
-            Box::new(|w, out| unsafe { numbers_dense_spectrum_is_wavelength(w[0]) }.put(out)),
-            Box::new(|w, out| {
-                let lambda = w[0];
-                let taken = lambda != 0.0 && !panics(|| DenseSpectrum::from_constant(1.0).sample_one(lambda));
-                taken.put(out)
-            }),
-        )
-    };
-    let lookup_wavelength = Function {
-        shape: vec![Slot::Float],
-        source: Some(any_wavelength_source),
-        ..Function::new(
-            "numbers_dense_spectrum_is_lookup_wavelength",
-            706,
-            1,
-            Box::new(|w, out| unsafe { numbers_dense_spectrum_is_lookup_wavelength(w[0]) }.put(out)),
-            Box::new(|w, out| (!panics(|| DenseSpectrum::from_constant(1.0).sample_one(w[0]))).put(out)),
+            Box::new(|w, out| sample_one(&w[..N], w[N]).put(out)),
+            Box::new(|w, out| judge::sample_one(&w[..N], w[N]).put(out)),
         )
     };
     let checked_lookup = Function {
-        shape: vec![Slot::Float; MOST + 3],
-        source: Some(checked_lookup_source),
+        entries: Some(N),
+        shape: vec![Slot::Float; behind(N) + 2],
+        source: Some(checked_lookup_source::<N>),
         ..Function::new(
             "rulvimba_lookup",
             801,
             2,
-            Box::new(|w, out| rulvimba::lookup(&w[1..1 + w[0] as usize], w[MOST + 1]).put(out)),
-            Box::new(|w, out| rust_lookup(&w[1..1 + w[0] as usize], w[MOST + 1]).put(out)),
+            Box::new(|w, out| rulvimba::lookup(&w[1..1 + w[0] as usize], w[behind(N)]).put(out)),
+            Box::new(|w, out| rust_lookup(&w[1..1 + w[0] as usize], w[behind(N)]).put(out)),
         )
     };
     vec![
         lookup,
-        of_entries(
+        of_entries::<N>(
             "numbers_dense_spectrum_is_constant",
             702,
             |v, _| unsafe { numbers_dense_spectrum_is_constant(v.as_ptr(), v.len()) },
-            |v, _| if v.len() == SAMPLES { spectrum(v).is_constant() } else { v.iter().all(|x| *x == v[0]) },
+            |v, _| judge::is_constant(v),
         ),
-        of_entries(
+        of_entries::<N>(
             "numbers_dense_spectrum_all_within",
             703,
             |v, l| unsafe { numbers_dense_spectrum_all_within(v.as_ptr(), v.len(), l[0], l[1]) },
             |v, l| v.iter().all(|x| l[0] <= *x && *x <= l[1]),
         ),
-        of_entries(
+        of_entries::<N>(
             "numbers_dense_spectrum_all_finite",
             704,
             |v, _| unsafe { numbers_dense_spectrum_all_finite(v.as_ptr(), v.len()) },
             |v, _| v.iter().all(|x| x.is_finite()),
         ),
-        wavelength,
-        lookup_wavelength,
         checked_lookup,
+    ]
+}
+
+/// The Rust takes a wavelength, 0 aside, where its lookup doesn't panic.
+fn wavelength_functions() -> Vec<Function> {
+    let taken = |lambda: f64| !panics(|| DenseSpectrum::from_constant(1.0).sample_one(lambda));
+    let of_wavelength = |name, number, here: Call, rust: Call| Function {
+        shape: vec![Slot::Float],
+        source: Some(any_wavelength_source),
+        ..Function::new(name, number, 1, here, rust)
+    };
+    vec![
+        of_wavelength(
+            "numbers_dense_spectrum_is_wavelength",
+            705,
+            Box::new(|w, out| unsafe { numbers_dense_spectrum_is_wavelength(w[0]) }.put(out)),
+            Box::new(move |w, out| (w[0] != 0.0 && taken(w[0])).put(out)),
+        ),
+        of_wavelength(
+            "numbers_dense_spectrum_is_lookup_wavelength",
+            706,
+            Box::new(|w, out| unsafe { numbers_dense_spectrum_is_lookup_wavelength(w[0]) }.put(out)),
+            Box::new(move |w, out| taken(w[0]).put(out)),
+        ),
     ]
 }
 
 pub fn table() -> Vec<Function> {
     let mut all = functions();
-    all.extend(spectrum_functions());
+    all.extend(spectrum_functions::<SAMPLES>());
+    all.extend(spectrum_functions::<FINE_SAMPLES>());
+    all.extend(wavelength_functions());
     all.sort_by_key(|f| f.number);
     for f in &mut all {
         match f.name {
@@ -471,7 +509,7 @@ fn sample_spectra(seed: u64, out: &mut String) {
         if n == SAMPLES {
             record(out, 702, &[], &[spectrum(&values).is_constant() as u64]);
             for _ in 0..24 {
-                let lambda = spectra::wavelength(rng);
+                let lambda = spectra::wavelength(rng, SAMPLES);
                 record(out, 701, &[lambda], &[bits(spectrum(&values).sample_one(lambda))]);
             }
         }
@@ -491,7 +529,7 @@ fn sample_lookups(seed: u64, out: &mut String) {
         spectra::entries(rng, &mut values);
         record(out, 800, &values, &[]);
         for i in 0..12 {
-            let lambda = spectra::any_wavelength(rng, k * 12 + i);
+            let lambda = spectra::any_wavelength(rng, k * 12 + i, SAMPLES);
             let mut answer = [0; 2];
             rust_lookup(&values, lambda).put(&mut answer);
             record(out, 801, &[lambda], &answer);
@@ -499,10 +537,10 @@ fn sample_lookups(seed: u64, out: &mut String) {
     }
 }
 
-/// Records of every function: the number, the counts of words, the words in, the Rust's words out.
+/// Records of every function that the Rust judges: the number, the counts of words, the words in, its words out.
 pub fn sample(seed: u64) -> String {
     let mut out = String::new();
-    for f in table() {
+    for f in table().iter().filter(|f| f.is_judged_by_rust()) {
         match f.number {
             701 => sample_spectra(seed, &mut out),
             702..=704 => (),

@@ -2,10 +2,11 @@
 //! librulvimba has go through it.
 use super::harness::*;
 use super::inputs::{Rng, Slot};
+use super::judge::{self, leading, Judge, Reading};
 use super::library::surface;
 use super::numbers::record;
 use super::rulvimba::{self, Spectra, DIRECTION, GLASS, NONE};
-use super::spectra::{self, SAMPLES};
+use super::spectra::{self, FINE_SAMPLES, SAMPLES};
 use super::surfaces::*;
 use crate::functions;
 use crate::tracer::bxdf::microfacet::{conductor, dielectric, util};
@@ -99,11 +100,6 @@ fn of_cosine(cosine: f64) -> (Vec3, Vec3) {
     (Vec3::new(cosine, 0.0, 0.0), Vec3::new(1.0, -0.0, -0.0))
 }
 
-/// The four wavelengths at which constant spectra are read.
-fn leading() -> ColorWavelength {
-    ColorWavelength { lambda: [360.0, 0.0, 0.0, 0.0] }
-}
-
 fn of_conductor(wi: Option<Vec3>) -> Scattered {
     let Outgoing { outcome, wi, .. } = outgoing(wi);
     Scattered { outcome, reflection: outcome == DIRECTION, wi }
@@ -124,26 +120,7 @@ fn rust_dielectric_sample(a: Vec2, eta: f64, k: f64, wo: Vec3, u: f64, disk: f64
 }
 
 fn rust_pdf(s: rulvimba::Surface, wo: Vec3, wi: Vec3, reflection: bool, eta: f64, k: f64) -> f64 {
-    let a = Vec2::new(s.roughness.x, s.roughness.y);
-    // lumo's metal answers 0 to what isn't a reflection before it looks at anything else
-    if s.kind == GLASS {
-        return dielectric::pdf(wo, wi, reflection, &leading(), lent(a, eta, k));
-    }
-    metal_pdf(a, wo, wi, reflection)
-}
-
-/// lumo's `BxDF::pdf` of metal.
-fn metal_pdf(a: Vec2, wo: Vec3, wi: Vec3, reflection: bool) -> f64 {
-    static mut METAL: Option<BxDF> = None;
-    let metal = unsafe { &mut *std::ptr::addr_of_mut!(METAL) };
-    let metal = metal.get_or_insert_with(|| {
-        let one = crate::tracer::DenseSpectrum::from_constant;
-        BxDF::MfConductor(distribution(a, one(1.0), one(2.0)))
-    });
-    if let BxDF::MfConductor(MfDistribution::Ggx(cfg)) = metal {
-        cfg.roughness = a;
-    }
-    metal.pdf(wo, wi, reflection, &leading())
+    lent_surface(s.kind == GLASS, Vec2::new(s.roughness.x, s.roughness.y), eta, k).pdf(wo, wi, reflection, &leading())
 }
 
 /// g over g1 by document 01's weight: 0 where g1 is 0.
@@ -374,8 +351,8 @@ fn fields(w: &[f64]) -> Fields<'static> {
     Fields {
         kind: w[0] as u64,
         a: Vec2::new(w[1], w[2]),
-        eta: &POOL.etas[w[3] as usize],
-        k: &POOL.ks[w[4] as usize],
+        eta: eta_of(w[3] as usize),
+        k: k_of(w[4] as usize),
     }
 }
 
@@ -416,11 +393,12 @@ impl Fields<'_> {
         of
     }
 
-    fn distribution(&self) -> &'static MfDistribution {
-        match self.rust() {
-            BxDF::MfConductor(d) | BxDF::MfDielectric(d) => d,
-            _ => unreachable!(),
+    /// What the judge of these spectra answers, where a lookup can read them.
+    fn judged<R>(&self, call: impl FnOnce(&dyn Judge) -> R) -> R {
+        if self.eta.len() == SAMPLES && self.k.len() == SAMPLES {
+            return call(self.rust());
         }
+        call(&Reading { glass: self.glass(), a: self.a, eta: self.eta, k: self.k })
     }
 }
 
@@ -456,26 +434,25 @@ fn accepted<T: Words>(checks: &[(u64, bool)], zero: T, value: impl FnOnce() -> T
     }
 }
 
-/// lumo's density on a surface that is accepted: refused 5, then 4, and 9 where it isn't finite.
-pub fn density(of: &BxDF, wo: Vec3, wi: Vec3, reflection: bool, wl: f64) -> Answer<f64> {
+/// The density on a surface that is accepted: refused 5, then 4, and 9 where it isn't finite.
+pub fn density(of: &(impl Judge + ?Sized), wo: Vec3, wi: Vec3, reflection: bool, wl: f64) -> Answer<f64> {
     let checks = [(5, is_direction(wo) && is_direction(wi)), (4, is_wavelength(wl))];
-    let wls = ColorWavelength { lambda: [wl, 0.0, 0.0, 0.0] };
-    let c = accepted(&checks, 0.0, || of.pdf(wo, wi, reflection, &wls));
+    let c = accepted(&checks, 0.0, || of.pdf_at(wo, wi, reflection, wl));
     if c.number == 0 && !c.value.is_finite() { Answer { number: 9, value: 0.0 } } else { c }
 }
 
-/// Fills the surface, then the parts; a few of the words are then any.
-fn checked_fill(parts: &[Part], wavelengths: usize, rng: &mut Rng, w: &mut [f64]) {
+/// Fills the surface, of `n` entries, then the parts; a few of the words are then any.
+fn checked_fill(parts: &[Part], wavelengths: usize, n: usize, rng: &mut Rng, w: &mut [f64]) {
     let glass = rng.below(2) == 0;
-    let [eta, k] = POOL.pick_any(rng, glass);
+    let [eta, k] = pick_any(rng, n, glass);
     w[0] = glass as u8 as f64;
     w[1..3].copy_from_slice(&roughness(rng));
     w[3] = eta as f64;
     w[4] = k as f64;
-    let n = w.len() - wavelengths;
-    fill(parts, rng, 9, &mut w[SURFACE..n]);
-    for at in n..w.len() {
-        w[at] = if rng.below(12) == 0 { spectra::any_wavelength(rng, 1000) } else { spectra::wavelength(rng) };
+    let first = w.len() - wavelengths;
+    fill(parts, rng, 9, &mut w[SURFACE..first]);
+    for at in first..w.len() {
+        w[at] = if rng.below(12) == 0 { spectra::any_wavelength(rng, 1000, n) } else { spectra::wavelength(rng, n) };
     }
     // one word at an edge, often beyond a limit
     if rng.below(8) == 0 {
@@ -490,19 +467,20 @@ fn checked_fill(parts: &[Part], wavelengths: usize, rng: &mut Rng, w: &mut [f64]
     }
 }
 
-/// A call that refuses: its parts after the surface, then wavelengths.
+/// A call that refuses, on spectra of `N` entries: its parts after the surface, then wavelengths.
 macro_rules! refusing {
     ( $( $number:literal $name:literal [ $( $part:ident ),* ] + $wls:literal -> $outs:literal, $here:expr, $rust:expr ; )* ) => {
-        fn refusing_functions() -> Vec<Function> {
+        fn refusing_functions<const N: usize>() -> Vec<Function> {
             vec![ $( {
                 const PARTS: &[Part] = &[ $( Part::$part ),* ];
                 let words: usize = PARTS.iter().map(|p| p.words()).sum();
                 let here: fn(&Fields, &[f64], &mut [u64]) = $here;
                 let rust: fn(&Fields, &[f64], &mut [u64]) = $rust;
                 Function {
+                    entries: Some(N),
                     shape: vec![Slot::Float; SURFACE + words + $wls],
                     source: Some(|rng, _, w| {
-                        checked_fill(PARTS, $wls, rng, w);
+                        checked_fill(PARTS, $wls, N, rng, w);
                         let mut at = SURFACE;
                         for part in PARTS {
                             if *part == Part::Flag {
@@ -542,64 +520,61 @@ refusing! {
         |f, _, out| f.refused().put(out);
     951 "optics_checked_is_delta" [] + 0 -> 2,
         |f, _, out| call!(optics_checked_is_delta, f).put(out),
-        |f, _, out| checked(f, &[], false, || f.distribution().is_delta()).put(out);
+        |f, _, out| checked(f, &[], false, || f.judged(|j| j.facets().is_delta())).put(out);
     952 "rulvimba_lambda" [Wo] + 0 -> 2,
         |f, w, out| call!(rulvimba::lambda, f, get(w)).put(out),
-        |f, w, out| checked(f, &[(5, is_direction(v3(w)))], 0.0, || f.distribution().lambda(v3(w))).put(out);
+        |f, w, out| checked(f, &[(5, is_direction(v3(w)))], 0.0, || f.judged(|j| j.facets().lambda(v3(w)))).put(out);
     953 "optics_checked_chi_pass" [Wo, Wh] + 0 -> 2,
         |f, w, out| call!(optics_checked_chi_pass, f, v3(w), v3(&w[3..])).put(out),
         |f, w, out| {
             let (wo, wh) = (v3(w), v3(&w[3..]));
-            checked(f, &[(5, is_direction(wo)), (5, is_direction(wh))], false, || f.distribution().chi_pass(wo, wh)).put(out)
+            checked(f, &[(5, is_direction(wo)), (5, is_direction(wh))], false, || f.judged(|j| j.facets().chi_pass(wo, wh))).put(out)
         };
     954 "rulvimba_g1" [Wo, Wh] + 0 -> 2,
         |f, w, out| call!(rulvimba::g1, f, get(w), get(&w[3..])).put(out),
         |f, w, out| {
             let (wo, wh) = (v3(w), v3(&w[3..]));
-            checked(f, &[(5, is_direction(wo)), (5, is_direction(wh))], 0.0, || f.distribution().g1(wo, wh)).put(out)
+            checked(f, &[(5, is_direction(wo)), (5, is_direction(wh))], 0.0, || f.judged(|j| j.facets().g1(wo, wh))).put(out)
         };
     955 "rulvimba_g" [Wo, Wi, Wh] + 0 -> 2,
         |f, w, out| call!(rulvimba::g, f, get(w), get(&w[3..]), get(&w[6..])).put(out),
         |f, w, out| {
             let (wo, wi, wh) = (v3(w), v3(&w[3..]), v3(&w[6..]));
             let taken = is_direction(wo) && is_direction(wi) && is_direction(wh);
-            checked(f, &[(5, taken)], 0.0, || f.distribution().g(wo, wi, wh)).put(out)
+            checked(f, &[(5, taken)], 0.0, || f.judged(|j| j.facets().g(wo, wi, wh))).put(out)
         };
     956 "rulvimba_d" [Wh] + 0 -> 2,
         |f, w, out| call!(rulvimba::d, f, get(w)).put(out),
-        |f, w, out| checked(f, &[(5, is_direction(v3(w)))], 0.0, || f.distribution().d(v3(w))).put(out);
+        |f, w, out| checked(f, &[(5, is_direction(v3(w)))], 0.0, || f.judged(|j| j.facets().d(v3(w)))).put(out);
     957 "optics_checked_disney_diffuse" [Cosine, Cosine, Cosine] + 0 -> 2,
         |f, w, out| call!(optics_checked_disney_diffuse, f, w[0], w[1], w[2]).put(out),
-        |f, w, out| checked(f, &[], 0.0, || f.distribution().disney_diffuse(w[0], w[1], w[2])).put(out);
+        |f, w, out| checked(f, &[], 0.0, || f.judged(|j| j.facets().disney_diffuse(w[0], w[1], w[2]))).put(out);
     958 "rulvimba_fresnel_at" [Wo, Wh] + 1 -> 2,
         |f, w, out| call!(rulvimba::fresnel_at, f, get(w), get(&w[3..]), w[6]).put(out),
         |f, w, out| {
             let (wo, wh) = (v3(w), v3(&w[3..]));
             let checks = [(5, is_direction(wo) && is_direction(wh)), (4, is_lookup(w[6]))];
-            checked(f, &checks, 0.0, || f.distribution().f_at(wo, wh, w[6])).put(out)
+            checked(f, &checks, 0.0, || f.judged(|j| j.f_at(wo, wh, w[6]))).put(out)
         };
     959 "rulvimba_fresnel" [Wo, Wh] + 4 -> 5,
         |f, w, out| call!(rulvimba::fresnel, f, get(w), get(&w[3..]), get(&w[6..])).put(out),
         |f, w, out| {
             let (wo, wh) = (v3(w), v3(&w[3..]));
             let checks = [(5, is_direction(wo) && is_direction(wh)), (4, w[6..10].iter().all(|l| is_lookup(*l)))];
-            checked(f, &checks, Color([0.0; 4]), || {
-                let wls = ColorWavelength { lambda: Color::get(&w[6..]).0 };
-                Color(f.distribution().f(wo, wh, &wls).samples)
-            }).put(out)
+            checked(f, &checks, Color([0.0; 4]), || Color(f.judged(|j| j.f(wo, wh, Color::get(&w[6..]).0)))).put(out)
         };
     960 "rulvimba_sample_normal" [Wo, Disk, Pair] + 0 -> 4,
         |f, w, out| call!(rulvimba::sample_normal, f, get(w), w[3], w[4], w[5]).put(out),
         |f, w, out| {
             let checks = [(5, is_direction(v3(w))), (6, is_random(w[3])), (7, is_pair(w[4], w[5]))];
             let random = Random { x: w[3], y: 0.0, c: w[4], s: w[5] };
-            checked(f, &checks, Vec3::ZERO, || f.distribution().sample_normal(v3(w), random)).put(out)
+            checked(f, &checks, Vec3::ZERO, || f.judged(|j| j.facets().sample_normal(v3(w), random))).put(out)
         };
     961 "rulvimba_density" [Wo, Wi, Flag] + 1 -> 2,
         |f, w, out| call!(rulvimba::density, f, get(w), get(&w[3..]), w[6] != 0.0, w[7]).put(out),
         |f, w, out| {
             let answer = match f.refused() {
-                0 => density(f.rust(), v3(w), v3(&w[3..]), w[6] != 0.0, w[7]),
+                0 => f.judged(|j| density(j, v3(w), v3(&w[3..]), w[6] != 0.0, w[7])),
                 number => Answer { number, value: 0.0 },
             };
             answer.put(out)
@@ -621,34 +596,42 @@ refusing! {
             let checks = [(2, within(0.01, 100.0, w[0])), (5, is_direction(wo) && is_direction(n))];
             checked_outgoing(&checks, || rust_refract(w[0], wo, n)).put(out)
         };
-    // unchecked, on spectra of 95 entries
+    // unchecked, on tables of any values, and of unlike lengths beside 471 entries
     931 "optics_constant_eta" [] + 0 -> 1,
-        |f, _, out| unsafe { optics_constant_eta(taken(f).0.as_ptr(), SAMPLES) }.put(out),
-        |f, _, out| super::numbers::spectrum(taken(f).0).is_constant().put(out);
+        |f, _, out| {
+            let eta = taken::<N>(f).eta;
+            unsafe { optics_constant_eta(eta.as_ptr(), eta.len()) }.put(out)
+        },
+        |f, _, out| judge::is_constant(taken::<N>(f).eta).put(out);
     932 "optics_eta_at" [] + 1 -> 1,
-        |f, w, out| unsafe { optics_eta_at(taken(f).0.as_ptr(), SAMPLES, at_hand(w[0])) }.put(out),
-        |f, w, out| super::numbers::spectrum(taken(f).0).sample_one(at_hand(w[0])).put(out);
+        |f, w, out| {
+            let eta = taken::<N>(f).eta;
+            unsafe { optics_eta_at(eta.as_ptr(), eta.len(), at_hand(w[0])) }.put(out)
+        },
+        |f, w, out| judge::sample_one(taken::<N>(f).eta, at_hand(w[0])).put(out);
     933 "optics_k_at" [] + 1 -> 1,
-        |f, w, out| unsafe { optics_k_at(taken(f).1.as_ptr(), SAMPLES, at_hand(w[0])) }.put(out),
-        |f, w, out| super::numbers::spectrum(taken(f).1).sample_one(at_hand(w[0])).put(out);
+        |f, w, out| {
+            let k = taken::<N>(f).k;
+            unsafe { optics_k_at(k.as_ptr(), k.len(), at_hand(w[0])) }.put(out)
+        },
+        |f, w, out| judge::sample_one(taken::<N>(f).k, at_hand(w[0])).put(out);
     934 "optics_f" [Wo, Wh] + 4 -> 4,
         |f, w, out| {
-            let (eta, k) = taken(f);
+            let Fields { eta, k, .. } = taken::<N>(f);
             let wls = Color(Color::get(&w[6..]).0.map(at_hand));
-            unsafe { optics_f(eta.as_ptr(), SAMPLES, k.as_ptr(), SAMPLES, v3(w), v3(&w[3..]), wls) }.put(out)
+            unsafe { optics_f(eta.as_ptr(), eta.len(), k.as_ptr(), k.len(), v3(w), v3(&w[3..]), wls) }.put(out)
         },
         |f, w, out| {
-            let (eta, k) = taken(f);
-            let of = distribution(Vec2::splat(1.0), spectrum_of(eta), spectrum_of(k));
-            let wls = ColorWavelength { lambda: Color::get(&w[6..]).0.map(at_hand) };
-            Color(of.f(v3(w), v3(&w[3..]), &wls).samples).put(out)
+            let wls = Color::get(&w[6..]).0.map(at_hand);
+            Color(taken::<N>(f).judged(|j| j.f(v3(w), v3(&w[3..]), wls))).put(out)
         };
 }
 
-/// Spectra of 95 entries, of any values.
-fn taken<'a>(f: &Fields<'a>) -> (&'a [f64], &'a [f64]) {
-    let or = |v: &'a [f64], w: &'a [f64]| if v.len() == SAMPLES { v } else { w };
-    (or(f.eta, &POOL.etas[0]), or(f.k, &POOL.ks[0]))
+/// The fields with tables, of any values, in the place of what isn't one.
+fn taken<'a, const N: usize>(f: &Fields<'a>) -> Fields<'a> {
+    let or = |v: &'a [f64], w: &'a [f64]| if is_length(v.len()) { v } else { w };
+    let [eta, k] = accepted_spectra(N);
+    Fields { eta: or(f.eta, eta), k: or(f.k, k), ..*f }
 }
 
 /// A wavelength that the Rust takes.
@@ -677,7 +660,7 @@ pub fn make_surface(f: &Fields) -> Answer<Vec2> {
     if eta_refused(f.eta) {
         return refused(2);
     }
-    if k_refused(f.glass(), f.k) {
+    if k_refused(f.glass(), f.eta, f.k) {
         return refused(3);
     }
     Answer { number: 0, value: a }
@@ -688,6 +671,10 @@ fn checked_outgoing(checks: &[(u64, bool)], value: impl FnOnce() -> Outgoing) ->
         Some((number, _)) => Outgoing { number: *number, outcome: 0, wi: Vec3::ZERO },
         None => value(),
     }
+}
+
+fn takes_no_spectra(f: &Function) -> bool {
+    ["rulvimba_reflect", "rulvimba_refract"].contains(&f.name)
 }
 
 pub fn table() -> Vec<Function> {
@@ -708,7 +695,12 @@ pub fn table() -> Vec<Function> {
             _ => (),
         }
     }
-    all.extend(refusing_functions());
+    // mirror and bend take no spectra
+    let (mut of_none, of_coarse): (Vec<_>, Vec<_>) = refusing_functions::<SAMPLES>().into_iter().partition(takes_no_spectra);
+    of_none.iter_mut().for_each(|f| f.entries = None);
+    all.extend(of_none);
+    all.extend(of_coarse);
+    all.extend(refusing_functions::<FINE_SAMPLES>().into_iter().filter(|f| !takes_no_spectra(f)));
     all.sort_by_key(|f| f.number);
     all
 }
@@ -758,10 +750,10 @@ fn sample_roughness(written: &mut Written, out: &mut String) {
     }
 }
 
-/// Records of every function: the number, the counts of words, the words in, the Rust's words out.
+/// Records of every function that the Rust judges: the number, the counts of words, the words in, its words out.
 pub fn sample(seed: u64) -> String {
     let mut out = String::new();
-    let recorded = table().into_iter().filter(|f| f.number != 950);
+    let recorded = table().into_iter().filter(|f| f.is_judged_by_rust() && f.number != 950);
     let (of_surfaces, others): (Vec<Function>, Vec<Function>) = recorded.partition(|f| f.number > 930);
     for f in &others {
         f.sample(seed, 60, &mut out);
@@ -808,7 +800,7 @@ pub fn sample(seed: u64) -> String {
 pub type OfSurface = extern "C-unwind" fn(&Surface, Vec3, Vec3, f64) -> f64;
 
 fn eta_and_k(s: &Surface, wl: f64) -> (f64, f64) {
-    unsafe { (optics_eta_at(s.eta.as_ptr(), SAMPLES, wl), optics_k_at(s.k.as_ptr(), SAMPLES, wl)) }
+    unsafe { (optics_eta_at(s.eta.as_ptr(), s.eta.len(), wl), optics_k_at(s.k.as_ptr(), s.k.len(), wl)) }
 }
 
 extern "C-unwind" fn here_f_at(s: &Surface, wo: Vec3, wh: Vec3, wl: f64) -> f64 {
@@ -822,7 +814,7 @@ extern "C-unwind" fn rust_f_at(s: &Surface, wo: Vec3, wh: Vec3, wl: f64) -> f64 
 
 extern "C-unwind" fn here_f(s: &Surface, wo: Vec3, wh: Vec3, wl: f64) -> f64 {
     let wls = Color([wl, 400.0, 512.5, 700.0]);
-    let f = unsafe { optics_f(s.eta.as_ptr(), SAMPLES, s.k.as_ptr(), SAMPLES, wo, wh, wls) };
+    let f = unsafe { optics_f(s.eta.as_ptr(), s.eta.len(), s.k.as_ptr(), s.k.len(), wo, wh, wls) };
     f.0[0] + f.0[1] + f.0[2] + f.0[3]
 }
 

@@ -1,12 +1,14 @@
 //! A whole bounce by lumo's `BSDF::sample` and `BxDF::pdf`, with document 01's refusals, weights and shares written
-//! once more from the document; and lists of bounces on one path as inputs. library.rs has what is held against it.
+//! once more from the document; and lists of bounces on one path as inputs. judge.rs has what lumo's functions look up,
+//! library.rs what is held against the bounce.
 use super::harness::*;
 use super::inputs::{near_unit, Rng};
+use super::judge::{self, Judge};
 use super::library::output_of;
 use super::numbers::record;
 use super::optics::{caught, g_over_g1, Color, Written};
 pub use super::rulvimba::{LOST, PASSED, REFLECTED, REFUSED};
-use super::spectra;
+use super::spectra::{self, FINE_SAMPLES};
 use super::surfaces::*;
 use crate::stand_in::Random;
 use crate::tracer::bsdf::BSDF;
@@ -150,7 +152,7 @@ fn random_of(b: &Bounce) -> Random {
     Random { x: b.disk, y: 0.0, c: b.c, s: b.s }
 }
 
-/// lumo's surface twice: its `BSDF` hands out no `BxDF`.
+/// A surface, and lumo's over it twice, where it has 95 entries: a `BSDF` hands out no `BxDF`.
 pub struct Lumo {
     pub surface: Surface,
     bsdf: Option<BSDF>,
@@ -164,34 +166,48 @@ impl Lumo {
 
 /// The bounce by lumo's sampler and density, and by 01's rules.
 pub fn rust(p: &Path, of: &Lumo, b: &Bounce) -> Bounced {
-    let s = &of.surface;
-    let number = refused(p, s, b);
+    let number = refused(p, &of.surface, b);
     if number != 0 {
-        return Bounced { number, case: REFUSED, wi: Vec3::ZERO, density: NO_DENSITY, shares: NO_SHARES, path: *p };
+        return kept(number, *p);
     }
-    let bxdf = s.rust.as_ref().unwrap();
-    let of_facets = s.distribution();
+    match (&of.surface.rust, &of.bsdf) {
+        (Some(own), Some(bsdf)) => {
+            let mut lambda = ColorWavelength { lambda: p.lambda.0 };
+            let world = sampled(bsdf, &mut lambda, b);
+            judged(own, world, lambda.lambda, p, b)
+        }
+        _ => {
+            let of = of.surface.reading();
+            let (lent, mut lambda) = of.lent_to_samplers(p.lambda.0);
+            let world = sampled(&BSDF::new(lent), &mut lambda, b);
+            judged(&of, world, [p.lambda.0[0], lambda.lambda[1], lambda.lambda[2], lambda.lambda[3]], p, b)
+        }
+    }
+}
 
-    // the sampler, which ends wavelengths
-    let mut lambda = ColorWavelength { lambda: p.lambda.0 };
-    let world = of.bsdf.as_ref().unwrap().sample(b.wo, b.normal, b.backface, &mut lambda, b.u, random_of(b));
-    let ended = s.glass && !of_facets.constant_eta();
+/// lumo's sampler, which ends wavelengths.
+fn sampled(of: &BSDF, lambda: &mut ColorWavelength, b: &Bounce) -> Option<Vec3> {
+    of.sample(b.wo, b.normal, b.backface, lambda, b.u, random_of(b))
+}
+
+/// The answer to a bounce that isn't refused, from the direction that was sampled and the wavelengths that were left.
+fn judged(of: &impl Judge, world: Option<Vec3>, lambda: [f64; 4], p: &Path, b: &Bounce) -> Bounced {
+    let ended = of.glass() && !of.constant_eta();
     let left = if ended { [p.lambda.0[0], 0.0, 0.0, 0.0] } else { p.lambda.0 };
-    assert_eq!(left.map(f64::to_bits), lambda.lambda.map(f64::to_bits), "the wavelengths that lumo ends");
+    assert_eq!(left.map(f64::to_bits), lambda.map(f64::to_bits), "the wavelengths that lumo ends");
 
     // the same on local directions
     let uvw = Onb::new(b.normal);
     let wo = uvw.to_local(b.wo);
-    let local = bxdf.sample(wo, b.backface, &mut ColorWavelength { lambda: p.lambda.0 }, b.u, random_of(b));
+    let local = of.sampled(wo, b.backface, p.lambda.0, b.u, random_of(b));
     assert_eq!(world.is_some(), local.is_some(), "lumo's two samplers");
 
     // the facet's normal, and the shares at the leading wavelength
     let wl = left[0];
-    let eta = of_facets.eta_at(wl);
-    let one_direction = of_facets.is_delta() || s.glass && eta == 1.0;
-    let wh = if one_direction { Vec3::Z } else { of_facets.sample_normal(wo, random_of(b)) };
-    let share = of_facets.f_at(wo, wh, wl);
-    let shares = if s.glass { Shares { there: true, reflected: share, passed: 1.0 - share } } else { NO_SHARES };
+    let one_direction = of.one_direction(wl);
+    let wh = if one_direction { Vec3::Z } else { of.facets().sample_normal(wo, random_of(b)) };
+    let share = of.f_at(wo, wh, wl);
+    let shares = if of.glass() { Shares { there: true, reflected: share, passed: 1.0 - share } } else { NO_SHARES };
 
     let powers = |weights: [f64; 4]| Path {
         lambda: Color(left),
@@ -200,20 +216,20 @@ pub fn rust(p: &Path, of: &Lumo, b: &Bounce) -> Bounced {
     let (Some(world), Some(wi)) = (world, local) else {
         return Bounced { number: 0, case: LOST, wi: Vec3::ZERO, density: NO_DENSITY, shares, path: powers([0.0; 4]) };
     };
-    let reflection = !s.glass || b.u < share / (share + (1.0 - share));
-    let density = handed_out(bxdf.pdf(wo, wi, reflection, &lambda));
+    let reflection = !of.glass() || b.u < share / (share + (1.0 - share));
+    let density = handed_out(of.pdf_at(wo, wi, reflection, wl));
 
     // the weights
-    let q = if one_direction { 1.0 } else { g_over_g1(of_facets, wo, wi, wh) };
+    let q = if one_direction { 1.0 } else { g_over_g1(of.facets(), wo, wi, wh) };
     let weight = |i: usize| {
         let wl = left[i];
         if wl == 0.0 {
             0.0
-        } else if s.glass {
+        } else if of.glass() {
             let filter = if reflection { b.ks.0[i] } else { b.tf.0[i] };
             filter * q
         } else {
-            let f = of_facets.f_at(wo, wh, wl);
+            let f = of.f_at(wo, wh, wl);
             let m = if f.is_nan() {
                 0.0
             } else if f <= 1.0 {
@@ -234,6 +250,11 @@ pub fn rust(p: &Path, of: &Lumo, b: &Bounce) -> Bounced {
     }
 }
 
+/// A refusal, which hands the path back.
+fn kept(number: u64, p: Path) -> Bounced {
+    Bounced { number, case: REFUSED, wi: Vec3::ZERO, density: NO_DENSITY, shares: NO_SHARES, path: p }
+}
+
 // ---- inputs
 
 fn v(x: u64, y: u64, z: u64) -> Vec3 {
@@ -242,9 +263,9 @@ fn v(x: u64, y: u64, z: u64) -> Vec3 {
 
 const ONES: Color = Color([1.0; 4]);
 
-/// Surfaces: the first are those of the samples of document 01 and of known edges.
-pub fn surfaces(rng: &mut Rng, count: usize) -> Vec<Lumo> {
-    let all = |x: f64| vec![x; 95];
+/// Surfaces of `n` entries: the first are those of the samples of document 01 and of known edges.
+pub fn surfaces(rng: &mut Rng, count: usize, n: usize) -> Vec<Lumo> {
+    let all = |x: f64| vec![x; n];
     let smooth = Vec2::splat(1e-5);
     let mut out = vec![
         Lumo::new(false, smooth, &all(1.0), &all(2.0)),
@@ -255,18 +276,12 @@ pub fn surfaces(rng: &mut Rng, count: usize) -> Vec<Lumo> {
     ];
     while out.len() < count {
         let glass = rng.below(2) == 0;
-        let [mut eta, mut k] = POOL.pick(rng, glass);
-        // one in twelve may be refused
-        match rng.below(24) {
-            0 => eta = rng.below(POOL.etas.len()),
-            1 => k = rng.below(POOL.ks.len()),
-            _ => (),
-        }
+        let [eta, k] = pick_for_list(rng, n, glass);
         let mut a = roughness(rng);
         if rng.below(24) == 0 {
             a[rng.below(2)] = [1e-5f64.next_down(), 1f64.next_up(), 0.0, f64::NAN, -1e-9][rng.below(5)];
         }
-        out.push(Lumo::new(glass, Vec2::new(a[0], a[1]), &POOL.etas[eta], &POOL.ks[k]));
+        out.push(Lumo::new(glass, Vec2::new(a[0], a[1]), eta, k));
     }
     out
 }
@@ -311,10 +326,10 @@ fn filter(rng: &mut Rng) -> Color {
     }
 }
 
-/// The path that a list starts from: mostly one that is accepted, with powers 1.0.
-pub fn start(rng: &mut Rng) -> Path {
+/// The path that a list on tables of `n` entries starts from: mostly one that is accepted, with powers 1.0.
+pub fn start(rng: &mut Rng, n: usize) -> Path {
     let mut lambda = four(rng, |rng| loop {
-        let l = spectra::wavelength(rng);
+        let l = spectra::wavelength(rng, n);
         if l != 0.0 {
             return l;
         }
@@ -323,7 +338,7 @@ pub fn start(rng: &mut Rng) -> Path {
         0..=2 => lambda.0[1 + rng.below(3)] = 0.0 * rng.sign(),
         3 => lambda.0[1..].fill(0.0),
         4 => lambda = Color([lambda.0[0]; 4]),
-        5 if rng.below(4) == 0 => lambda.0[rng.below(4)] = spectra::any_wavelength(rng, rng.0 as usize % 200),
+        5 if rng.below(4) == 0 => lambda.0[rng.below(4)] = spectra::any_wavelength(rng, rng.0 as usize % 200, n),
         _ => (),
     }
     let power = match rng.below(16) {
@@ -412,6 +427,8 @@ pub fn next_bounce(rng: &mut Rng, p: &Path, of: &[Lumo], on: Option<Vec3>) -> (u
 #[derive(Default)]
 pub struct Counts {
     pub bounces: usize,
+    /// Of these, on surfaces of 471 entries.
+    pub fine: usize,
     lists: usize,
     pub differences: usize,
     refused: [usize; 11],
@@ -427,6 +444,7 @@ pub struct Counts {
 impl Counts {
     fn count(&mut self, of: &Lumo, a: &Bounced) {
         self.bounces += 1;
+        self.fine += (of.surface.eta.len() == FINE_SAMPLES && of.surface.k.len() == FINE_SAMPLES) as usize;
         match a.case {
             REFUSED => self.refused[a.number as usize] += 1,
             LOST if of.surface.glass => self.lost_glass += 1,
@@ -441,8 +459,16 @@ impl Counts {
         }
     }
 
+    /// Who judged, and how many where it was not the Rust alone.
+    pub fn judges(&self) -> String {
+        match self.fine {
+            0 => judge::name(Some(spectra::SAMPLES)).into(),
+            fine => format!("{}, on {fine}, the Rust on the rest", judge::name(Some(FINE_SAMPLES))),
+        }
+    }
+
     pub fn print(&self, name: &str) {
-        println!("{name:<44} {:>9} bounces {:>5} differences, in {} lists", self.bounces, self.differences, self.lists);
+        println!("{name:<44} {:>9} bounces {:>5} differences from {}, in {} lists", self.bounces, self.differences, self.judges(), self.lists);
         println!(
             "  refused {} (by number {:?}), lost {} on metal and {} on glass, reflected {} by metal and {} by glass, passed {}",
             self.refused.iter().sum::<usize>(), &self.refused[1..], self.lost_metal, self.lost_glass, self.reflected[0], self.reflected[1], self.passed
@@ -456,23 +482,23 @@ pub fn report(name: &str, p: &Path, of: &Lumo, b: &Bounce, here: &[u64], rust: O
     println!("  {name}, {}, roughness {}", if s.glass { "glass" } else { "metal" }, hex_floats(&[s.a.x, s.a.y]));
     println!("    eta {}\n    k   {}", hex_floats(&s.eta), hex_floats(&s.k));
     println!("    in  {}", hex_floats(&words_in(p, b)));
-    println!("    here {}", hex(here));
+    println!("    here  {}", hex(here));
     match rust {
-        Some(rust) => println!("    rust {}", hex(&rust.words())),
-        None => println!("    rust panics"),
+        Some(rust) => println!("    judge {}", hex(&rust.words())),
+        None => println!("    judge panics"),
     }
 }
 
 /// Four wavelengths to start at, often refused.
 pub fn start_input(rng: &mut Rng, i: usize) -> Color {
     match rng.below(4) {
-        0 => four(rng, |rng| spectra::wavelength(rng)),
+        0 => four(rng, |rng| spectra::wavelength(rng, spectra::SAMPLES)),
         1 => {
             let mut l = four(rng, |rng| rng.between(360.0, 830.0));
-            l.0[rng.below(4)] = spectra::any_wavelength(rng, i);
+            l.0[rng.below(4)] = spectra::any_wavelength(rng, i, spectra::SAMPLES);
             l
         }
-        _ => start(rng).lambda,
+        _ => start(rng, spectra::SAMPLES).lambda,
     }
 }
 
@@ -492,19 +518,19 @@ pub trait Subject {
     fn surfaces_end(&mut self, _of: &[Lumo]) {}
 }
 
-/// Lists of bounces on one path, `bounces` of them or a few more, each beside the driver's own answer; the first
-/// list has the known edges.
-pub fn walk<S: Subject>(seed: u64, bounces: usize, subject: &mut S) -> Counts {
+/// Lists of bounces on one path, `bounces` of them on surfaces of `n` entries or a few more, each beside the driver's own
+/// answer; the first list has the known edges.
+pub fn walk<S: Subject>(seed: u64, n: usize, bounces: usize, subject: &mut S) -> Counts {
     let rng = &mut Rng(seed ^ 0x9a7b);
     let mut c = Counts::default();
-    let mut of = surfaces(rng, 64);
-    while c.bounces < bounces {
+    let mut of = surfaces(rng, 64, n);
+    while bounces > if n == FINE_SAMPLES { c.fine } else { c.bounces } {
         // other surfaces every so often
         if c.lists % 256 == 255 {
             subject.surfaces_end(&of);
-            of = surfaces(rng, 64);
+            of = surfaces(rng, 64, n);
         }
-        let mut p = start(rng);
+        let mut p = start(rng, n);
         if c.lists == 0 {
             p = Path { lambda: Color([400.0, 500.0, 600.0, 700.0]), power: ONES };
         }
@@ -556,9 +582,9 @@ pub fn sample(seed: u64) -> String {
     let mut out = String::new();
     let rng = &mut Rng(seed ^ 0x5a3);
     let mut written = Written::new();
-    let of = surfaces(rng, 48);
+    let of = surfaces(rng, 48, spectra::SAMPLES);
     for list in 0..LISTS {
-        let mut p = if list == 0 { Path { lambda: Color([400.0, 500.0, 600.0, 700.0]), power: ONES } } else { start(rng) };
+        let mut p = if list == 0 { Path { lambda: Color([400.0, 500.0, 600.0, 700.0]), power: ONES } } else { start(rng, spectra::SAMPLES) };
         let length = if list == 0 { 11 } else { 1 + rng.below(LONGEST) };
         let mut on = None;
         // a list has two surfaces of its own, so that few spectra are written
@@ -591,30 +617,40 @@ pub fn sample(seed: u64) -> String {
 
 // ---- for the benchmark
 
-fn kept(number: u64, p: Path) -> Bounced {
-    Bounced { number, case: REFUSED, wi: Vec3::ZERO, density: NO_DENSITY, shares: NO_SHARES, path: p }
-}
-
 /// A whole checked bounce as one writes it in Rust on lumo's functions, with nothing computed twice but what
 /// these compute twice.
 #[inline(never)]
 pub extern "C-unwind" fn plain(p: Path, s: &Surface, b: Bounce) -> Bounced {
-    match refused(&p, s, &b) {
-        0 => plain_on(p, s, s.glass && s.distribution().constant_eta(), b),
-        number => kept(number, p),
+    match (refused(&p, s, &b), &s.rust) {
+        (0, Some(own)) => plain_on(own, s.glass && own.constant_eta(), p, b),
+        (0, None) => plain_on(&s.reading(), s.glass && s.reading().constant_eta(), p, b),
+        (number, _) => kept(number, p),
     }
 }
 
 /// Many bounces on one surface, likewise: the surface is checked once, and whether its eta is constant is found once.
 #[inline(never)]
 pub fn plain_many(s: &Surface, input: &[f64], output: &mut [f64]) {
-    let of_surface = surface_refused(s.glass, s.a, &s.eta, &s.k);
-    let constant = of_surface == 0 && s.glass && s.distribution().constant_eta();
+    match (surface_refused(s.glass, s.a, &s.eta, &s.k), &s.rust) {
+        (0, Some(own)) => plain_many_on(own, input, output),
+        (0, None) => plain_many_on(&s.reading(), input, output),
+        (number, _) => each_row(input, output, |p, _| kept(number, p)),
+    }
+}
+
+fn plain_many_on(of: &impl Judge, input: &[f64], output: &mut [f64]) {
+    let constant = of.glass() && of.constant_eta();
+    each_row(input, output, |p, b| match refused_on(&p, &b) {
+        0 => plain_on(of, constant, p, b),
+        number => kept(number, p),
+    })
+}
+
+#[inline]
+fn each_row(input: &[f64], output: &mut [f64], answer: impl Fn(Path, Bounce) -> Bounced) {
     for (w, out) in input.chunks_exact(INS).zip(output.chunks_exact_mut(OUTS)) {
         let (p, b) = of_words(w);
-        let number = if of_surface == 0 { refused_on(&p, &b) } else { of_surface };
-        let a = if number == 0 { plain_on(p, s, constant, b) } else { kept(number, p) };
-        out.copy_from_slice(&output_of(&a));
+        out.copy_from_slice(&output_of(&answer(p, b)));
     }
 }
 
@@ -629,9 +665,8 @@ fn of_words(w: &[f64]) -> (Path, Bounce) {
 
 /// A bounce that is accepted.
 #[inline]
-fn plain_on(p: Path, s: &Surface, constant: bool, b: Bounce) -> Bounced {
-    let bxdf = s.rust.as_ref().unwrap();
-    let of_facets = s.distribution();
+fn plain_on(of: &impl Judge, constant: bool, p: Path, b: Bounce) -> Bounced {
+    let of_facets = of.facets();
     let uvw = Onb::new(b.normal);
     let wo = uvw.to_local(b.wo);
     let mut lambda = ColorWavelength { lambda: p.lambda.0 };
@@ -644,12 +679,12 @@ fn plain_on(p: Path, s: &Surface, constant: bool, b: Bounce) -> Bounced {
         path: Path { lambda: Color(lambda.lambda), power: Color(p.power.0.map(|x| x * 0.0)) },
     };
     let (wh, sampled, reflection, shares, one_direction);
-    if s.glass {
+    if of.glass() {
         let wl = if constant { lambda.lambda[0] } else { lambda.terminate() };
-        let eta = of_facets.eta_at(wl);
+        let eta = of.eta_at(wl);
         one_direction = eta == 1.0 || of_facets.is_delta();
         wh = if one_direction { Vec3::Z } else { of_facets.sample_normal(wo, random_of(&b)) };
-        let share = of_facets.f_at(wo, wh, wl);
+        let share = of.f_at(wo, wh, wl);
         let rest = 1.0 - share;
         shares = Shares { there: true, reflected: share, passed: rest };
         reflection = b.u < share / (share + rest);
@@ -672,7 +707,7 @@ fn plain_on(p: Path, s: &Surface, constant: bool, b: Bounce) -> Bounced {
     let Some(wi) = sampled else {
         return lost(&lambda, shares);
     };
-    let density = handed_out(bxdf.pdf(wo, wi, reflection, &lambda));
+    let density = handed_out(of.pdf_at(wo, wi, reflection, lambda.lambda[0]));
     let q = if one_direction { 1.0 } else { g_over_g1(of_facets, wo, wi, wh) };
     let filter = if reflection { &b.ks } else { &b.tf };
     let mut power = [0.0; 4];
@@ -680,10 +715,10 @@ fn plain_on(p: Path, s: &Surface, constant: bool, b: Bounce) -> Bounced {
         let wl = lambda.lambda[i];
         let weight = if wl == 0.0 {
             0.0
-        } else if s.glass {
+        } else if of.glass() {
             filter.0[i] * q
         } else {
-            let f = of_facets.f_at(wo, wh, wl);
+            let f = of.f_at(wo, wh, wl);
             filter.0[i] * if f.is_nan() { 0.0 } else { f.min(1.0) } * q
         };
         power[i] = p.power.0[i] * weight;
@@ -700,16 +735,19 @@ fn plain_on(p: Path, s: &Surface, constant: bool, b: Bounce) -> Bounced {
 
 /// A surface as a renderer has it.
 pub fn usual_surface(rng: &mut Rng, glass: bool, rough: bool, varying: bool) -> Surface {
-    surface_of(rng, glass, rough, varying, !glass)
+    let [coarse, _] = surfaces_of(rng, glass, rough, varying, !glass);
+    coarse
 }
 
-/// The same, and metal may be without absorption.
-pub fn surface_of(rng: &mut Rng, glass: bool, rough: bool, varying: bool, absorbs: bool) -> Surface {
+/// The same of 95 entries and of 471, and metal may be without absorption.
+pub fn surfaces_of(rng: &mut Rng, glass: bool, rough: bool, varying: bool, absorbs: bool) -> [Surface; 2] {
     let a = if rough { rng.between(0.05, 0.8) } else { 1e-5 };
-    let step = if varying { 0.001 } else { 0.0 };
-    let eta: Vec<f64> = (0..95).map(|i| 1.5 + step * i as f64).collect();
-    let k: Vec<f64> = (0..95).map(|i| if absorbs { 2.0 + 0.01 * i as f64 } else { 0.0 }).collect();
-    Surface::new(glass, Vec2::splat(a), &eta, &k)
+    [(spectra::SAMPLES, 1.0), (FINE_SAMPLES, 0.2)].map(|(n, step)| {
+        let rise = |by: f64| move |i: usize| by * step * i as f64;
+        let eta: Vec<f64> = (0..n).map(rise(if varying { 0.001 } else { 0.0 })).map(|x| 1.5 + x).collect();
+        let k: Vec<f64> = (0..n).map(rise(0.01)).map(|x| if absorbs { 2.0 + x } else { 0.0 }).collect();
+        Surface::new(glass, Vec2::splat(a), &eta, &k)
+    })
 }
 
 pub fn usual_path(rng: &mut Rng) -> Path {

@@ -1,9 +1,11 @@
 //! Spectra and wavelengths as inputs.
 use super::inputs::{edges, scaled, Rng};
 
+/// The entries of lumo's tables, and of those that are one nanometre apart.
 pub const SAMPLES: usize = 95;
-/// The most entries that an input has.
-pub const MOST: usize = 100;
+pub const FINE_SAMPLES: usize = 471;
+/// How many entries more than a table's an input may have.
+pub const MORE: usize = 5;
 
 /// Entries of one kind: constant, nearly constant, within a surface's limits, of any size, or edges.
 pub fn entries(rng: &mut Rng, out: &mut [f64]) {
@@ -36,22 +38,25 @@ pub fn entries(rng: &mut Rng, out: &mut [f64]) {
     }
 }
 
-/// A wavelength that the lookup takes: 0 of either sign, a grid point, a double beside one, or any.
-pub fn wavelength(rng: &mut Rng) -> f64 {
-    let grid = 360.0 + 5.0 * rng.below(SAMPLES) as f64;
+/// A wavelength that the lookup takes in a table of `n` entries: 0 of either sign, a grid point, a double beside one, the
+/// ends and the middle between two, or any.
+pub fn wavelength(rng: &mut Rng, n: usize) -> f64 {
+    let step = if n == SAMPLES { 5.0 } else { 1.0 };
+    let grid = 360.0 + step * rng.below(n) as f64;
     let w: f64 = match rng.below(8) {
         0 => return 0.0 * rng.sign(),
         1 => grid,
         2 => grid.next_up(),
         3 => grid.next_down(),
-        4 => [360.0, 362.5, 365.0, 825.0, 830.0][rng.below(5)],
+        4 if n == SAMPLES => [360.0, 362.5, 365.0, 825.0, 830.0][rng.below(5)],
+        4 => [grid + 0.5, grid + 0.5, (grid + 0.5).next_up(), (grid + 0.5).next_down(), 360.0, 830.0][rng.below(6)],
         _ => rng.between(360.0, 830.0),
     };
     w.clamp(360.0, 830.0)
 }
 
-/// Any wavelength, edges first.
-pub fn any_wavelength(rng: &mut Rng, i: usize) -> f64 {
+/// Any wavelength, edges first, the rest as a table of `n` entries has them.
+pub fn any_wavelength(rng: &mut Rng, i: usize, n: usize) -> f64 {
     let edges = edges();
     if i < edges.len() {
         return edges[i];
@@ -60,6 +65,6 @@ pub fn any_wavelength(rng: &mut Rng, i: usize) -> f64 {
         0 => f64::from_bits(rng.next()),
         1 => rng.between(350.0, 360.5),
         2 => rng.between(829.5, 840.0),
-        _ => wavelength(rng),
+        _ => wavelength(rng, n),
     }
 }

@@ -1,6 +1,7 @@
 //! Surfaces, local directions and random numbers as inputs, and lumo's surfaces over the same fields.
 use super::inputs::{edges, near_unit, scaled, Rng};
-use super::spectra::SAMPLES;
+use super::judge::{Judge, Reading};
+use super::spectra::{FINE_SAMPLES, SAMPLES};
 use crate::tracer::bxdf::BxDF;
 use crate::tracer::microfacet::{MfDistribution, MicrofacetConfig};
 use crate::tracer::{DenseSpectrum, Texture};
@@ -20,29 +21,47 @@ pub fn distribution(a: Vec2, eta: DenseSpectrum, k: DenseSpectrum) -> MfDistribu
     MfDistribution::Ggx(MicrofacetConfig { roughness: a, eta, k, kd: texture(), ks: texture(), tf: texture() })
 }
 
-struct Lent {
-    eta: f64,
-    k: f64,
-    of: MfDistribution,
+/// Sets the entry at 360 nm: the array is a spectrum's one field.
+#[inline]
+fn set_first(spectrum: &mut DenseSpectrum, x: f64) {
+    const { assert!(size_of::<DenseSpectrum>() == size_of::<[f64; SAMPLES]>()) };
+    unsafe { *(spectrum as *mut DenseSpectrum).cast::<f64>() = x };
 }
 
-/// The distribution that the functions of few fields are called on.
-static mut LENT: Option<Lent> = None;
+/// lumo's metal and glass that values are lent to, one after the other.
+static mut LENT: Option<[BxDF; 2]> = None;
 
-/// lumo's distribution with the roughness, and the index and the absorption at every wavelength.
+/// lumo's surface with the roughness, and the index and the absorption at 360 nm. It is to be read nowhere else, so
+/// it has a NaN there.
 #[inline]
-pub fn lent(a: Vec2, eta: f64, k: f64) -> &'static MfDistribution {
+pub fn lent_surface(glass: bool, a: Vec2, eta: f64, k: f64) -> &'static BxDF {
     let lent = unsafe { &mut *std::ptr::addr_of_mut!(LENT) };
-    let same = matches!(lent, Some(l) if l.eta.to_bits() == eta.to_bits() && l.k.to_bits() == k.to_bits());
-    if !same {
-        let constant = DenseSpectrum::from_constant;
-        *lent = Some(Lent { eta, k, of: distribution(a, constant(eta), constant(k)) });
-    }
-    let of = &mut lent.as_mut().unwrap().of;
-    if let MfDistribution::Ggx(cfg) = of {
+    let lent = lent.get_or_insert_with(|| {
+        let nowhere = || DenseSpectrum::from_constant(f64::NAN);
+        [BxDF::MfConductor, BxDF::MfDielectric].map(|kind| kind(distribution(a, nowhere(), nowhere())))
+    });
+    let of = &mut lent[glass as usize];
+    if let BxDF::MfConductor(MfDistribution::Ggx(cfg)) | BxDF::MfDielectric(MfDistribution::Ggx(cfg)) = of {
         cfg.roughness = a;
+        set_first(&mut cfg.eta, eta);
+        set_first(&mut cfg.k, k);
     }
     of
+}
+
+/// The distribution of lumo's metal or glass.
+#[inline]
+pub fn of_bxdf(of: &BxDF) -> &MfDistribution {
+    match of {
+        BxDF::MfConductor(of) | BxDF::MfDielectric(of) => of,
+        _ => unreachable!(),
+    }
+}
+
+/// That of a lent surface.
+#[inline]
+pub fn lent(a: Vec2, eta: f64, k: f64) -> &'static MfDistribution {
+    of_bxdf(lent_surface(true, a, eta, k))
 }
 
 /// The same where neither index nor absorption is read.
@@ -57,7 +76,7 @@ pub struct Surface {
     pub a: Vec2,
     pub eta: Vec<f64>,
     pub k: Vec<f64>,
-    /// None where a spectrum has another length than the Rust has.
+    /// None where a spectrum has another length than the Rust's.
     pub rust: Option<BxDF>,
 }
 
@@ -71,26 +90,43 @@ impl Surface {
     }
 
     pub fn distribution(&self) -> &MfDistribution {
-        match self.rust.as_ref().unwrap() {
-            BxDF::MfConductor(of) | BxDF::MfDielectric(of) => of,
-            _ => unreachable!(),
+        of_bxdf(self.rust.as_ref().unwrap())
+    }
+
+    /// The second reading's surface.
+    #[inline]
+    pub fn reading(&self) -> Reading<'_> {
+        Reading { glass: self.glass, a: self.a, eta: &self.eta, k: &self.k }
+    }
+
+    /// What the surface's judge answers, where it is accepted: the Rust on 95 entries, else the second reading.
+    pub fn judged<R>(&self, call: impl FnOnce(&dyn Judge) -> R) -> R {
+        match &self.rust {
+            Some(of) => call(of),
+            None => call(&self.reading()),
         }
     }
 }
 
-// ---- document 01's rules ("Records", "At the counter"), read once more
+// ---- document 01's rules ("Records", "At the counter") with 02 (i), read once more
 
 pub fn within(lo: f64, hi: f64, x: f64) -> bool {
     lo <= x && x <= hi
 }
 
-pub fn eta_refused(eta: &[f64]) -> bool {
-    eta.len() != 95 || eta.iter().any(|v| !within(0.01, 100.0, *v))
+/// A table has 95 entries or 471.
+pub fn is_length(n: usize) -> bool {
+    n == 95 || n == 471
 }
 
-pub fn k_refused(glass: bool, k: &[f64]) -> bool {
+pub fn eta_refused(eta: &[f64]) -> bool {
+    !is_length(eta.len()) || eta.iter().any(|v| !within(0.01, 100.0, *v))
+}
+
+/// Beside an eta that is accepted, whose length k's is to be.
+pub fn k_refused(glass: bool, eta: &[f64], k: &[f64]) -> bool {
     let zero = k.iter().all(|v| *v == 0.0);
-    k.len() != 95 || !(zero || !glass && k.iter().all(|v| within(1e-6, 100.0, *v)))
+    k.len() != eta.len() || !(zero || !glass && k.iter().all(|v| within(1e-6, 100.0, *v)))
 }
 
 /// 0 where the fields of a surface are accepted.
@@ -99,7 +135,7 @@ pub fn surface_refused(glass: bool, a: Vec2, eta: &[f64], k: &[f64]) -> u64 {
         1
     } else if eta_refused(eta) {
         2
-    } else if k_refused(glass, k) {
+    } else if k_refused(glass, eta, k) {
         3
     } else {
         0
@@ -345,14 +381,70 @@ pub struct Pool {
     pub ks_zero: usize,
 }
 
-pub static POOL: LazyLock<Pool> = LazyLock::new(|| Pool::new(&mut Rng(0x5eed)));
+/// Those of 95 entries and those of 471, each with a few of other lengths.
+pub static POOL: LazyLock<Pool> = LazyLock::new(|| Pool::new(&mut Rng(0x5eed), SAMPLES, &[0, 1, 94, 96, 100]));
+static FINE_POOL: LazyLock<Pool> = LazyLock::new(|| Pool::new(&mut Rng(0xf19e), FINE_SAMPLES, &[0, 1, 94, 96, 470, 472, 500]));
 
-fn constant(x: f64) -> Vec<f64> {
-    vec![x; SAMPLES]
+/// Both pools have their indices: from here on they are those of 471 entries.
+const FINE: usize = 1000;
+
+/// The eta of an index.
+pub fn eta_of(i: usize) -> &'static [f64] {
+    if i < FINE { &POOL.etas[i] } else { &FINE_POOL.etas[i - FINE] }
+}
+
+/// The k of an index.
+pub fn k_of(i: usize) -> &'static [f64] {
+    if i < FINE { &POOL.ks[i] } else { &FINE_POOL.ks[i - FINE] }
+}
+
+/// An eta and a k of `n` entries that are accepted.
+pub fn accepted_spectra(n: usize) -> [&'static [f64]; 2] {
+    let pool = if n == SAMPLES { &POOL } else { &FINE_POOL };
+    [&pool.etas[0], &pool.ks[0]]
+}
+
+/// Indices of eta and k, often refused: of `n` entries, and beside 471 now and then 95.
+pub fn pick_any(rng: &mut Rng, n: usize, glass: bool) -> [usize; 2] {
+    if n == SAMPLES {
+        return POOL.pick_any(rng, glass);
+    }
+    let picked = FINE_POOL.pick_any(rng, glass).map(|i| FINE + i);
+    unlike(rng, glass, picked)
+}
+
+/// One in 24 has an eta of 95 entries in the place of 471, one a k.
+fn unlike(rng: &mut Rng, glass: bool, [eta, k]: [usize; 2]) -> [usize; 2] {
+    match rng.below(24) {
+        0 => [POOL.pick(rng, glass)[0], k],
+        1 => [eta, POOL.pick(rng, glass)[1]],
+        _ => [eta, k],
+    }
+}
+
+/// The spectra of a list's surface: of `n` entries, one in twelve may be refused; among 471 one in eight has 95.
+pub fn pick_for_list(rng: &mut Rng, n: usize, glass: bool) -> [&'static [f64]; 2] {
+    if n != SAMPLES && rng.below(8) == 0 {
+        return pick_for_list(rng, SAMPLES, glass);
+    }
+    let (pool, from) = if n == SAMPLES { (&POOL, 0) } else { (&FINE_POOL, FINE) };
+    let [mut eta, mut k] = pool.pick(rng, glass);
+    match rng.below(24) {
+        0 => eta = rng.below(pool.etas.len()),
+        1 => k = rng.below(pool.ks.len()),
+        _ => (),
+    }
+    let mut picked = [from + eta, from + k];
+    if n != SAMPLES {
+        picked = unlike(rng, glass, picked);
+    }
+    [eta_of(picked[0]), k_of(picked[1])]
 }
 
 impl Pool {
-    fn new(rng: &mut Rng) -> Self {
+    /// Of tables of `n` entries, and of `others`, which are refused.
+    fn new(rng: &mut Rng, n: usize, others: &[usize]) -> Self {
+        let constant = |x: f64| vec![x; n];
         let mut etas = vec![];
         for x in [1.5, 1.0, 3.0, 2.0, 100.0, 0.01, 0.75, 0.5, 1f64.next_up(), 1f64.next_down(), 1.33, 2.417] {
             etas.push(constant(x));
@@ -361,7 +453,7 @@ impl Pool {
             etas.push(constant(index(rng)));
         }
         let mut varying = |of: &mut dyn FnMut(&mut Rng, usize) -> f64, rng: &mut Rng| {
-            let v: Vec<f64> = (0..SAMPLES).map(|i| of(rng, i)).collect();
+            let v: Vec<f64> = (0..n).map(|i| of(rng, i)).collect();
             etas.push(v);
         };
         for _ in 0..6 {
@@ -374,27 +466,27 @@ impl Pool {
             varying(&mut |rng, _| rng.between(0.9, 1.1), rng);
             varying(&mut |_, i| if i % 3 == 0 { 1.0 } else { 1.5 }, rng);
             // one entry aside
-            let (x, at) = (index(rng), rng.below(SAMPLES));
+            let (x, at) = (index(rng), rng.below(n));
             varying(&mut |_, i| if i == at { (x * 1.01).clamp(0.01, 100.0) } else { x }, rng);
-            let (x, last) = (index(rng), [0, SAMPLES - 1][rng.below(2)]);
+            let (x, last) = (index(rng), [0, n - 1][rng.below(2)]);
             varying(&mut |_, i| if i == last { x.next_up().clamp(0.01, 100.0) } else { x }, rng);
         }
         let etas_taken = etas.len();
         for x in [0.01f64.next_down(), 100f64.next_up(), f64::NAN, f64::INFINITY, 0.0, -1.5, -f64::INFINITY] {
-            for at in [0, rng.below(SAMPLES), SAMPLES - 1] {
+            for at in [0, rng.below(n), n - 1] {
                 let mut v = constant(1.5);
                 v[at] = x;
                 etas.push(v);
             }
             etas.push(constant(x));
         }
-        for n in [0, 1, 94, 96, 100] {
-            etas.push(vec![1.5; n]);
+        for n in others {
+            etas.push(vec![1.5; *n]);
         }
 
         let mut ks = vec![constant(0.0), constant(-0.0)];
         for _ in 0..3 {
-            ks.push((0..SAMPLES).map(|_| 0.0 * rng.sign()).collect());
+            ks.push((0..n).map(|_| 0.0 * rng.sign()).collect());
         }
         let ks_zero = ks.len();
         for x in [1e-6, 100.0, 1.0, 2.0, 1e-6f64.next_up(), 3.5] {
@@ -403,14 +495,14 @@ impl Pool {
         for _ in 0..8 {
             let x = absorption(rng);
             ks.push(constant(x));
-            ks.push((0..SAMPLES).map(|_| absorption(rng)).collect());
-            ks.push((0..SAMPLES).map(|i| 2.0 + 0.02 * i as f64).collect());
-            ks.push((0..SAMPLES).map(|i| if i % 2 == 0 { 1e-6 } else { 100.0 }).collect());
-            ks.push((0..SAMPLES).map(|_| rng.between(1e-6, 2e-6)).collect());
+            ks.push((0..n).map(|_| absorption(rng)).collect());
+            ks.push((0..n).map(|i| 2.0 + 0.02 * i as f64).collect());
+            ks.push((0..n).map(|i| if i % 2 == 0 { 1e-6 } else { 100.0 }).collect());
+            ks.push((0..n).map(|_| rng.between(1e-6, 2e-6)).collect());
         }
         let ks_taken = ks.len();
         for x in [1e-6f64.next_down(), 100f64.next_up(), f64::NAN, f64::INFINITY, 0.0, -0.0, -1.0, f64::from_bits(1)] {
-            for at in [0, rng.below(SAMPLES), SAMPLES - 1] {
+            for at in [0, rng.below(n), n - 1] {
                 let mut v = constant(2.0);
                 v[at] = x;
                 ks.push(v);
@@ -419,8 +511,8 @@ impl Pool {
                 ks.push(v);
             }
         }
-        for n in [0, 1, 94, 96, 100] {
-            ks.push(vec![0.0; n]);
+        for n in others {
+            ks.push(vec![0.0; *n]);
         }
         Self { etas, ks, etas_taken, ks_taken, ks_zero }
     }
