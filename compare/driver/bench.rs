@@ -166,6 +166,17 @@ fn many(data: &[[f64; INS]], s: &Surface, n: usize, f: fn(&Surface, &[f64], &mut
     })
 }
 
+/// What is timed answers the same on both sides.
+fn assert_same(rng: &mut Rng, row: fn(&mut Rng) -> [f64; INS], s: &Surface) {
+    let data: Vec<[f64; INS]> = (0..SIZE).map(|_| row(rng)).collect();
+    let [here, rust] = [run_bounces, plain_many].map(|f| {
+        let mut out = vec![0.0; data.len() * OUTS];
+        f(s, data.as_flattened(), &mut out);
+        out.into_iter().map(bits).collect::<Vec<_>>()
+    });
+    assert!(here == rust, "the bounces that are timed differ, on {} entries", s.eta.len());
+}
+
 /// ns for each bounce of lists of `n`, each on one path and on four surfaces by turns.
 #[inline(never)]
 fn lists(data: &[One], s: &[Surface], n: usize) -> f64 {
@@ -239,6 +250,7 @@ fn bench_bounces(rng: &mut Rng) {
         ("delta glass, varying eta", true, false, true, false),
     ] {
         let [s, fine] = &surfaces_of(rng, glass, rough, varying, absorbs);
+        [s, fine].map(|s| assert_same(rng, row, s));
         let (a, b) = least(rng, row, |d| many(d, s, SIZE, run_bounces), |d| many(d, s, SIZE, plain_many));
         line(&format!("{SIZE}, {name}, 95 entries"), a, b);
         let times: [&dyn Fn(&[[f64; INS]]) -> f64; 4] = [
