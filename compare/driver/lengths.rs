@@ -105,7 +105,7 @@ fn with(n: usize, x: f64, at: usize, other: f64) -> Vec<f64> {
     all
 }
 
-/// 1 comes before 2, and 2 before 3; every entry counts.
+/// 1 comes before 2, and 2 before 3.
 fn order(t: &mut Tally) {
     let (metal, glass) = (vec![2.0; 471], vec![0.0; 471]);
     let good = vec![1.5; 471];
@@ -129,6 +129,27 @@ fn order(t: &mut Tally) {
     ];
     for (what, kind, a, eta, k, written) in cases {
         t.expect_of_surface(what, kind, a, Spectra { eta, k }, written);
+    }
+}
+
+/// An entry out of its limits is seen wherever it stands.
+fn every_entry(t: &mut Tally) {
+    let metal = rulvimba::Surface { kind: METAL, roughness: rulvimba::Vec2 { x: 0.5, y: 0.5 } };
+    for n in [95, 471] {
+        let (eta, k) = (vec![1.5; n], vec![2.0; n]);
+        for at in 0..n {
+            let bad_eta = with(n, 1.5, at, 100f64.next_up());
+            let bad_k = with(n, 2.0, at, 0.0);
+            let not_finite = with(n, 1.5, at, f64::INFINITY);
+            let numbers = [
+                rulvimba::check_surface(metal, Spectra { eta: &bad_eta, k: &k }),
+                rulvimba::check_surface(metal, Spectra { eta: &eta, k: &bad_k }),
+                rulvimba::lookup(&not_finite, 500.5).number,
+            ];
+            for (what, (here, written)) in ["eta", "k", "a lookup"].iter().zip(numbers.into_iter().zip([2, 3, 2])) {
+                t.expect(|| format!("{what} with the entry {at} of {n} out of its limits"), here, written);
+            }
+        }
     }
 }
 
@@ -167,6 +188,7 @@ pub fn compare() -> usize {
     let mut t = Tally::default();
     all_pairs(&mut t);
     order(&mut t);
+    every_entry(&mut t);
     known_table(&mut t);
     println!("{:<44} {:>9} answers {:>5} differences from those written out", "lengths of tables, a known table", t.answers, t.differences);
     t.differences
