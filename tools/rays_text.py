@@ -13,7 +13,8 @@ from typing import NamedTuple
 SURFACES = 64
 PATHS = 1024
 WAVELENGTHS = (360, 830)  # nm
-LINE_MAX = 4096  # bytes of a job's line without its line feed, and more than a line of figures takes
+TABLES = (95, 471)  # entries of a spectrum, 5 and 1 nm apart
+LINE_MAX = 32768  # bytes of a job's line without its line feed, and more than a line of figures takes
 
 COMMANDS = ("surface", "start", "bounce", "density")
 UNITS = ("per-sr", "probability")
@@ -21,8 +22,8 @@ UNITS = ("per-sr", "probability")
 # Why a line is refused, by its number (the table of docs/RAYS.md).
 GROUNDS = {
     1: "the roughness is not from 0 to 1",
-    2: "eta is not one entry or 95, each from 0.01 to 100",
-    3: "k is not one entry or 95, all of them 0 or, on metal, all from 0.000001 to 100",
+    2: "eta is not one entry, 95 or 471, each from 0.01 to 100",
+    3: "k is not one entry, 95 or 471, in eta's steps, all of them 0 or, on metal, all from 0.000001 to 100",
     4: "a wavelength is not from 360 to 830 nm",
     5: "a direction's squared length is not within 0.000001 of 1",
     6: "u or the disk number is not from 0 to below 1",
@@ -46,7 +47,7 @@ FAULTS = {
     "the line goes on",
     "the path is not started",
     "the surface is not made",
-    "a line is at most 4096 bytes",
+    f"a line is at most {LINE_MAX} bytes",
 }
 
 

@@ -17,9 +17,10 @@ pub const PLAIN: Answer = |p, of, b| plain(*p, &of.surface, *b);
 
 const SURFACES: usize = 64;
 const PATHS: usize = 1024;
-const LINE_MAX: usize = 4096;
-/// The most entries of a spectrum that a line can have.
-const ENTRIES: usize = 256;
+const LINE_MAX: usize = 32768;
+/// The entries of a spectrum, 5 nm apart and 1 nm apart.
+const COARSE: usize = 95;
+const FINE: usize = 471;
 
 /// What is wrong with a number.
 const NUMBER: &str =
@@ -157,13 +158,13 @@ impl<'a> Line<'a> {
         Ok(Vec3::new(x, y, z))
     }
 
-    /// A spectrum, which ends before a word of one letter: its entries, of which one stands for all.
+    /// The entries of a spectrum, which ends before a word of one letter.
     fn entries(&mut self) -> Reading<Vec<f64>> {
         let mut all = vec![];
-        while all.len() < ENTRIES && self.peek().is_some_and(|word| word.len() > 1) {
+        while self.peek().is_some_and(|word| word.len() > 1) {
             all.push(self.number()?);
         }
-        Ok(if all.len() == 1 { vec![all[0]; 95] } else { all })
+        Ok(all)
     }
 
     fn end(&mut self) -> Reading<()> {
@@ -265,6 +266,7 @@ impl Held {
         line.keyword(b"k", "the word k is missing")?;
         let k = line.entries()?;
         line.end()?;
+        let (eta, k) = (spread(&eta, &k), spread(&k, &eta));
         let made = make_surface(&Fields { kind: glass as u64, a: Vec2::splat(roughness), eta: &eta, k: &k });
         if made.number == 0 {
             self.surfaces[i] = Some(Lumo::new(glass, made.value, &eta, &k));
@@ -329,6 +331,15 @@ impl Held {
             writeln!(out, " error word {}: {}", fault.word, fault.what)?;
             Ok(Outcome::Error)
         })
+    }
+}
+
+/// A spectrum's entries; one alone stands at every wavelength, in the other spectrum's steps.
+fn spread(entries: &[f64], other: &[f64]) -> Vec<f64> {
+    match entries {
+        [alone] if other.len() == FINE => vec![*alone; FINE],
+        [alone] => vec![*alone; COARSE],
+        _ => entries.to_vec(),
     }
 }
 

@@ -4,6 +4,7 @@ use crate::sizes;
 use crate::store;
 use counter::SurfaceAnswer;
 use numbers::checked::FloatAnswer;
+use numbers::dense_spectrum::DenseSpectrum;
 use numbers::refusal::Refusal;
 use numbers::vec3::Vec3;
 use optics::bxdf::dielectric;
@@ -170,18 +171,10 @@ fn bounced(out: &mut [u8], n: usize, p: u64, answer: Bounced, measure: Measure) 
 
 // ---- commands
 
-// The word `name` and the entries of a spectrum; one entry stands for all.
+// The word `name` and the entries of a spectrum.
 fn spectrum(text: &[u8], c: Cursor, name: &[u8], fault: Fault, values: &mut [f64]) -> EntriesRead {
     let before = line::keyword(text, c, name, fault);
-    let read = line::entries(text, before, values);
-    if read.count == 1 {
-        store::fill(values);
-        return EntriesRead {
-            count: sizes::ENTRIES,
-            ..read
-        };
-    }
-    read
+    line::entries(text, before, values)
 }
 
 fn eta(text: &[u8], c: Cursor, values: &mut [f64]) -> EntriesRead {
@@ -190,6 +183,24 @@ fn eta(text: &[u8], c: Cursor, values: &mut [f64]) -> EntriesRead {
 
 fn k(text: &[u8], c: Cursor, values: &mut [f64]) -> EntriesRead {
     spectrum(text, c, b"k", Fault::K, values)
+}
+
+// How many entries a lone one stands for, beside a spectrum of `other` entries.
+fn samples_beside(other: usize) -> usize {
+    if other == DenseSpectrum::FINE_SAMPLES {
+        return DenseSpectrum::FINE_SAMPLES;
+    }
+    DenseSpectrum::SAMPLES
+}
+
+// How many entries a spectrum has of which `count` were read, beside one of `other` that were; a lone one
+// is put in every place.
+fn spread(values: &mut [f64], count: usize, other: usize) -> usize {
+    if count == 1 {
+        store::fill(values);
+        return samples_beside(other);
+    }
+    count
 }
 
 // A kind: whether it is glass.
@@ -229,16 +240,18 @@ fn surface(text: &[u8], c: Cursor, surfaces: &mut [f64], out: &mut [u8], n: usiz
     let index = line::index(text, c, store::SURFACES, Fault::SurfaceIndex);
     let kind = glass(text, index.next);
     let roughness = line::number(text, kind.next);
-    let mut etas = [0.0; sizes::LINE_NUMBERS];
+    let mut etas = [0.0; sizes::ENTRIES_READ];
     let eta = eta(text, roughness.next, &mut etas);
-    let mut ks = [0.0; sizes::LINE_NUMBERS];
+    let mut ks = [0.0; sizes::ENTRIES_READ];
     let k = k(text, eta.next, &mut ks);
     let end = line::end(text, k.next);
     if !end.ok {
         return fault(out, n, end);
     }
-    let eta_part = store::part(&etas, 0, eta.count);
-    let k_part = store::part(&ks, 0, k.count);
+    let eta_count = spread(&mut etas, eta.count, k.count);
+    let k_count = spread(&mut ks, k.count, eta.count);
+    let eta_part = store::part(&etas, 0, eta_count);
+    let k_part = store::part(&ks, 0, k_count);
     let answer = counter::make_surface(kind_of(kind.value), roughness.value, eta_part, k_part);
     made(surfaces, index.value, answer, eta_part, k_part, out, n)
 }

@@ -12,16 +12,21 @@ pub const COLOR: usize = 4;
 
 pub const PATH: usize = 2 * COLOR;
 
-// How many entries a spectrum has.
-pub const ENTRIES: usize = DenseSpectrum::SAMPLES;
+// The most entries that a spectrum has.
+pub const ENTRIES: usize = DenseSpectrum::FINE_SAMPLES;
 
-// A surface's numbers: roughness x and y, the kind, eta, k.
+// A surface's numbers: roughness x and y, the kind, how many entries each spectrum has, and room for eta
+// and k.
 pub const SURFACE: usize = ETA + 2 * ENTRIES;
 
 // Where a surface's eta and k begin.
-pub const ETA: usize = 3;
+pub const ETA: usize = 4;
 
 pub const K: usize = ETA + ENTRIES;
+
+// The entries of a spectrum that are kept of a line: one more than the most, so that a list that is too
+// long is still too long.
+pub const ENTRIES_READ: usize = ENTRIES + 1;
 
 // The numbers behind the indices and the flag of a bounce and of a density.
 pub const BOUNCE: usize = 18;
@@ -29,10 +34,7 @@ pub const BOUNCE: usize = 18;
 pub const DENSITY: usize = 7;
 
 // The longest line, without its line feed.
-pub const LINE: usize = 4096;
-
-// More numbers than a line has room for: each takes 16 bytes and a blank.
-pub const LINE_NUMBERS: usize = LINE / 16;
+pub const LINE: usize = 32768;
 
 // The most that the answer to a line takes.
 pub const ANSWER: usize = 1024;

@@ -1,6 +1,6 @@
 // The surfaces and the paths that a job holds, in flat arrays that `main` lends.
 //
-//   surface i   sizes::SURFACE numbers: roughness x and y, the kind, eta, k
+//   surface i   sizes::SURFACE numbers: roughness x and y, the kind, the number of entries, eta, k
 //   path i      sizes::PATH numbers: wavelengths and powers
 //
 // Zeros are a surface that was not made, whose roughness is never 0, and a path that was not started,
@@ -129,21 +129,37 @@ pub fn is_made(place: &[f64]) -> bool {
     0.0 < at(place, 0)
 }
 
-pub fn eta(place: &[f64]) -> &[f64] {
-    part(place, sizes::ETA, sizes::K)
-}
-
-pub fn k(place: &[f64]) -> &[f64] {
-    part(place, sizes::K, sizes::SURFACE)
-}
-
-// A kind is kept as the number whose bits are its code.
+// A kind and a count are kept as the numbers whose bits are the kind's code and the count, which is less
+// than the numbers of a place.
 fn kind_of(number: f64) -> Kind {
     Kind::of_code(patterns::bits(number))
 }
 
 fn kind_number(kind: Kind) -> f64 {
     patterns::of_bits(kind.code())
+}
+
+fn count_of(number: f64) -> u32 {
+    (patterns::bits(number) % sizes::SURFACE as u64) as u32
+}
+
+fn count_number(count: usize) -> f64 {
+    patterns::of_bits(count as u64)
+}
+
+// As many entries of a spectrum as the surface has, from a place on, which is a u32 so that no sum with it
+// wraps.
+fn spectrum(place: &[f64], from: u32) -> &[f64] {
+    let i = from as usize;
+    part(place, i, i + count_of(at(place, 3)) as usize)
+}
+
+pub fn eta(place: &[f64]) -> &[f64] {
+    spectrum(place, sizes::ETA as u32)
+}
+
+pub fn k(place: &[f64]) -> &[f64] {
+    spectrum(place, sizes::K as u32)
 }
 
 // The surface, without its spectra.
@@ -157,19 +173,28 @@ pub fn surface(place: &[f64]) -> Surface {
     }
 }
 
-// Keeps a surface with the sizes::ENTRIES entries of each of its spectra; whatever it is handed, no other
-// surface is written to.
+// The entries of a spectrum that a surface's place has room for, which are all but of a spectrum that no
+// surface has.
+fn with_room(spectrum: &[f64]) -> &[f64] {
+    if sizes::ENTRIES < spectrum.len() {
+        return part(spectrum, 0, sizes::ENTRIES);
+    }
+    spectrum
+}
+
+// Keeps a surface with its spectra; whatever it is handed, no other surface is written to.
 pub fn keep_surface(surfaces: &mut [f64], i: u64, surface: Surface, eta: &[f64], k: &[f64]) {
     let from = surface_place(i);
     let kind = surface.kind;
-    let head = [surface.roughness.x, surface.roughness.y, kind_number(kind)];
+    let head = [
+        surface.roughness.x,
+        surface.roughness.y,
+        kind_number(kind),
+        count_number(eta.len()),
+    ];
     put(surfaces, from, &head);
-    put(
-        surfaces,
-        from + sizes::ETA as u32,
-        part(eta, 0, sizes::ENTRIES),
-    );
-    put(surfaces, from + sizes::K as u32, part(k, 0, sizes::ENTRIES));
+    put(surfaces, from + sizes::ETA as u32, with_room(eta));
+    put(surfaces, from + sizes::K as u32, with_room(k));
 }
 
 // One number for every entry.

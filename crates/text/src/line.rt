@@ -48,6 +48,7 @@ pub struct NumberRead {
     pub next: Cursor,
 }
 
+// `count` is of the entries that are kept.
 pub struct EntriesRead {
     pub count: usize,
     pub next: Cursor,
@@ -206,27 +207,29 @@ fn entries_end(text: &[u8], c: Cursor) -> bool {
     word(text, b).len() < 2
 }
 
-// The entries of a spectrum, as many as the line has and there are places for.
+// Keeps a value at the place `n`, if there is one; answers how many are kept then.
+fn keep(values: &mut [f64], n: usize, x: f64) -> usize {
+    if n < values.len() {
+        values[n] = x;
+        return n + 1;
+    }
+    n
+}
+
+// The entries of a spectrum: all that the line has are read, and as many kept as there are places for.
+// Each takes some bytes of the line, so that no spectrum uses up the turns.
 pub fn entries(text: &[u8], c: Cursor, values: &mut [f64]) -> EntriesRead {
     let mut now = c;
-    let mut i: usize = 0;
-    while i < values.len() {
-        if entries_end(text, now) {
-            return EntriesRead {
-                count: i,
-                next: now,
-            };
-        }
+    let mut count: usize = 0;
+    let mut turns = text.len();
+    while 0 < turns && !entries_end(text, now) {
         let read = number(text, now);
-        values[i] = read.value;
+        count = keep(values, count, read.value);
         let next = read.next;
         now = next;
-        i += 1;
+        turns -= 1;
     }
-    EntriesRead {
-        count: i,
-        next: now,
-    }
+    EntriesRead { count, next: now }
 }
 
 // An index below `limit`.
