@@ -193,8 +193,8 @@ fn samples_beside(other: usize) -> usize {
     DenseSpectrum::SAMPLES
 }
 
-// How many entries a spectrum has of which `count` were read, beside one of `other` that were; a lone one
-// is put in every place.
+// How many entries a spectrum has once a lone one stands at every wavelength: `count` were read of it, and
+// `other` of the other.
 fn spread(values: &mut [f64], count: usize, other: usize) -> usize {
     if count == 1 {
         store::fill(values);

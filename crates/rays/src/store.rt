@@ -173,8 +173,7 @@ pub fn surface(place: &[f64]) -> Surface {
     }
 }
 
-// The entries of a spectrum that a surface's place has room for, which are all but of a spectrum that no
-// surface has.
+// The entries that a surface's place has room for, which are all of any spectrum that a surface has.
 fn with_room(spectrum: &[f64]) -> &[f64] {
     if sizes::ENTRIES < spectrum.len() {
         return part(spectrum, 0, sizes::ENTRIES);
