@@ -13,7 +13,7 @@ from typing import NamedTuple
 SURFACES = 64
 PATHS = 1024
 WAVELENGTHS = (360, 830)  # nm
-TABLES = (95, 471)  # entries of a spectrum, 5 and 1 nm apart
+TABLES = {95: 5, 471: 1}  # entries of a spectrum from 360 nm on, and how many nm apart they are
 LINE_MAX = 32768  # bytes of a job's line without its line feed, and more than a line of figures takes
 
 COMMANDS = ("surface", "start", "bounce", "density")
