@@ -213,8 +213,7 @@ fn answered(out: &mut impl Write, text: &[u8]) -> Written {
 /// What a density at the leading wavelength is, as `rays` marks it: light that is scattered into one
 /// direction has a probability.
 fn measure(of: &Surface, leading: f64) -> &'static [u8] {
-    let facets = of.distribution();
-    let one_direction = facets.is_delta() || of.glass && facets.eta_at(leading) == 1.0;
+    let one_direction = of.judged(|judge| judge.one_direction(leading));
     if one_direction { b" probability" } else { b" per-sr" }
 }
 
@@ -306,7 +305,7 @@ impl Held {
         let lambda = line.number()?;
         line.end()?;
         let Some(of) = &self.surfaces[i] else { return Err(Fault { word: 2, what: "the surface is not made" }) };
-        let a = density(of.surface.rust.as_ref().unwrap(), wo, wi, reflection, lambda);
+        let a = of.surface.judged(|judge| density(judge, wo, wi, reflection, lambda));
         Ok(match a.number {
             0 => labelled(out, format!(" density {i}").as_bytes(), &[a.value])
                 .and_then(|_| out.write_all(measure(&of.surface, lambda)))
