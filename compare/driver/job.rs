@@ -3,6 +3,7 @@
 use super::harness::bits;
 use super::optics::{density, make_surface, Color, Fields};
 use super::path::{plain, rust, rust_start, Bounce, Bounced, Lumo, Path, LOST, REFLECTED, REFUSED};
+use super::spectra::{FINE_SAMPLES, SAMPLES};
 use super::surfaces::Surface;
 use crate::{Vec2, Vec3};
 use std::io::{self, BufRead, BufReader, BufWriter, Read, Write};
@@ -18,9 +19,6 @@ pub const PLAIN: Answer = |p, of, b| plain(*p, &of.surface, *b);
 const SURFACES: usize = 64;
 const PATHS: usize = 1024;
 const LINE_MAX: usize = 32768;
-/// The entries of a spectrum, 5 nm apart and 1 nm apart.
-const COARSE: usize = 95;
-const FINE: usize = 471;
 
 /// What is wrong with a number.
 const NUMBER: &str =
@@ -213,8 +211,7 @@ fn answered(out: &mut impl Write, text: &[u8]) -> Written {
 /// What a density at the leading wavelength is, as `rays` marks it: light that is scattered into one
 /// direction has a probability.
 fn measure(of: &Surface, leading: f64) -> &'static [u8] {
-    let one_direction = of.judged(|judge| judge.one_direction(leading));
-    if one_direction { b" probability" } else { b" per-sr" }
+    if of.judged(|judge| judge.one_direction(leading)) { b" probability" } else { b" per-sr" }
 }
 
 fn figures(out: &mut impl Write, a: &Bounced, of: &Surface) -> Written {
@@ -333,11 +330,11 @@ impl Held {
     }
 }
 
-/// A spectrum's entries; one alone stands at every wavelength, in the other spectrum's steps.
+/// A spectrum's entries; a lone one counts as 471 beside 471 entries, and else as 95.
 fn spread(entries: &[f64], other: &[f64]) -> Vec<f64> {
     match entries {
-        [alone] if other.len() == FINE => vec![*alone; FINE],
-        [alone] => vec![*alone; COARSE],
+        [lone] if other.len() == FINE_SAMPLES => vec![*lone; FINE_SAMPLES],
+        [lone] => vec![*lone; SAMPLES],
         _ => entries.to_vec(),
     }
 }
