@@ -329,7 +329,7 @@ fn usual_parts(parts: &[Part], rng: &mut Rng, w: &mut [f64]) {
 extern "C" {
     fn optics_constant_eta(eta: *const f64, n: usize) -> bool;
     fn optics_eta_at(eta: *const f64, n: usize, wl: f64) -> f64;
-    fn optics_k_at(k: *const f64, n: usize, wl: f64) -> f64;
+    fn optics_k_at(eta: *const f64, n: usize, k: *const f64, m: usize, wl: f64) -> f64;
     fn optics_f(eta: *const f64, n: usize, k: *const f64, m: usize, wo: Vec3, wh: Vec3, wls: Color) -> Color;
     fn optics_checked_is_delta(s: rulvimba::Surface, eta: *const f64, n: usize, k: *const f64, m: usize) -> Answer<bool>;
     fn optics_checked_chi_pass(s: rulvimba::Surface, eta: *const f64, n: usize, k: *const f64, m: usize, wo: Vec3, wh: Vec3) -> Answer<bool>;
@@ -611,8 +611,8 @@ refusing! {
         |f, w, out| judge::sample_one(taken::<N>(f).eta, at_hand(w[0])).put(out);
     933 "optics_k_at" [] + 1 -> 1,
         |f, w, out| {
-            let k = taken::<N>(f).k;
-            unsafe { optics_k_at(k.as_ptr(), k.len(), at_hand(w[0])) }.put(out)
+            let Fields { eta, k, .. } = taken::<N>(f);
+            unsafe { optics_k_at(eta.as_ptr(), eta.len(), k.as_ptr(), k.len(), at_hand(w[0])) }.put(out)
         },
         |f, w, out| judge::sample_one(taken::<N>(f).k, at_hand(w[0])).put(out);
     934 "optics_f" [Wo, Wh] + 4 -> 4,
@@ -800,7 +800,8 @@ pub fn sample(seed: u64) -> String {
 pub type OfSurface = extern "C-unwind" fn(&Surface, Vec3, Vec3, f64) -> f64;
 
 fn eta_and_k(s: &Surface, wl: f64) -> (f64, f64) {
-    unsafe { (optics_eta_at(s.eta.as_ptr(), s.eta.len(), wl), optics_k_at(s.k.as_ptr(), s.k.len(), wl)) }
+    let (eta, k) = (&s.eta, &s.k);
+    unsafe { (optics_eta_at(eta.as_ptr(), eta.len(), wl), optics_k_at(eta.as_ptr(), eta.len(), k.as_ptr(), k.len(), wl)) }
 }
 
 extern "C-unwind" fn here_f_at(s: &Surface, wo: Vec3, wh: Vec3, wl: f64) -> f64 {

@@ -25,10 +25,10 @@ pub extern "C" fn optics_eta_at(eta: &[f64], wl: f64) -> f64
 }
 
 #[no_mangle]
-pub extern "C" fn optics_k_at(k: &[f64], wl: f64) -> f64
-    ensures { λ r. ⌜ r ≡ kAt (now (k .entry)) wl ⌝ }
+pub extern "C" fn optics_k_at(eta: &[f64], k: &[f64], wl: f64) -> f64
+    ensures { λ r. ⌜ r ≡ kAt (now (eta .entry)) (now (k .entry)) wl ⌝ }
 {
-    microfacet::k_at(k, wl)
+    microfacet::k_at(eta, k, wl)
 }
 
 #[no_mangle]

@@ -72,7 +72,7 @@ disneyDiffuse m cosWo cosWi cosWh =
 unfoldable pub fAt : Microsurface → Vec3 → Vec3 → Float → Answer Float
 fAt m wo wh lambda =
     checkSurface m then checkDirection wo then checkDirection wh then checkLookup lambda
-    ▷ given (Fresnel.fAt wo wh (etaAt (m .eta) lambda) (kAt (m .k) lambda))
+    ▷ given (Fresnel.fAt wo wh (etaAt (m .eta) lambda) (kAt (m .eta) (m .k) lambda))
 
 unfoldable pub f : Microsurface → Vec3 → Vec3 → Color → Answer Color
 f m wo wh lambda =

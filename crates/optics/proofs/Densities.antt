@@ -167,7 +167,7 @@ density-not-below m wo wi reflection lambda fits-eta fits-k fits-lambda eta-hold
     eta = etaAt (m .eta) lambda
 
     k : Float
-    k = kAt (m .k) lambda
+    k = kAt (m .eta) (m .k) lambda
 
     on-glass : m .kind ≡ Glass → Index eta × T (eq k f0)
     on-glass e = (

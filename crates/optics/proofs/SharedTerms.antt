@@ -1,8 +1,9 @@
 -- A term that is computed once and handed on changes nothing: from it each form of specs/SharedTerms.antt is its formula.
 -- The cosine wo · wh stands for wh · wo, by `dot-comm`. Where a surface scatters into one direction its density doesn't read Λ(wo), so
 -- that any number does there (`metal-density`, `glass-density`), nor on glass the density of the normal (`normal-unread`).
-use mathlib.Core.Path.{_≡_, refl}
+use mathlib.Core.Path.{_≡_, refl, ap, _∙_}
 use mathlib.Core.Bool.{Bool, true, false, cond}
+use mathlib.Core.List.{List}
 use lib.Ieee.{Float, neg, lt, eq}
 use Rattle.floats.specs.Float.{_⊕_, _⊘_, f0, f1}
 use Rattle.numbers.specs.SphericalUtils.{sinTheta, cosPhi, sinPhi}
@@ -10,10 +11,13 @@ use Rattle.numbers.specs.Vec3.{negate, dot}
 use Rattle.numbers.specs.declared.vec2.Vec2.{Vec2}
 use Rattle.numbers.specs.declared.vec3.Vec3.{Vec3}
 use Rattle.optics.specs.Facets.{isDelta, lambda, chiPass, masked, g1, g, gOverG1, sampleNormalPdf}
-use Rattle.optics.specs.Fresnel.{indexFrom, sin2I, cosI, frFacing, frReal, fresnel, fAt}
+use Rattle.numbers.specs.DenseSpectrum.{stepOf, sampleOneAt, sampleOne}
+use Rattle.optics.specs.Color.{Color}
+use Rattle.optics.specs.Surface.{etaAt, kAt}
+use Rattle.optics.specs.Fresnel.{indexFrom, sin2I, cosI, frFacing, frReal, fresnel, fAt, f}
 use Rattle.optics.specs.Bxdf.{refractFacing, refract, Scattered, isSmooth, dielectricFrom}
 use Rattle.optics.specs.Density.{conductorHalf, conductorPdfFrom, conductorPdf, etaRatio, dielectricHalf, reflectedPdf, passedPdf, dielectricPdfFrom, dielectricPdf}
-use Rattle.optics.specs.SharedTerms.{Snell, azimuth, chiPassAt, g1At, gOverG1At, sampleNormalPdfAt, snell, frRealFrom, fresnelFrom, refractFacingFrom, refractFrom, dielectricFromSnell}
+use Rattle.optics.specs.SharedTerms.{Snell, azimuth, chiPassAt, g1At, gOverG1At, sampleNormalPdfAt, snell, frRealFrom, fresnelFrom, refractFacingFrom, refractFrom, dielectricFromSnell, fFrom}
 use Rattle.optics.proofs.Cosine.{dot-comm, sin2-abs, sin2-neg}
 
 -- ---- the azimuth
@@ -116,3 +120,16 @@ glass-density a l eta k reflection wo wi λwo e ratio er wh h = rw (e, ← er, �
         ≡ dielectricPdfFrom (sampleNormalPdf a wh wo) smooth eta k ratio reflection wo wi wh
     go true = refl
     go false = rw (normal-density a wh wo)
+
+-- ---- the step of the spectra
+pub f-from : (eta k : List Float) (wo wh : Vec3) (lambda : Color) → fFrom (stepOf eta) eta k wo wh lambda ≡ f eta k wo wh lambda
+unfolding fFrom f etaAt kAt sampleOne
+f-from eta k wo wh lambda = refl
+
+pub eta-from : (step : Float) (eta : List Float) (wl : Float) → step ≡ stepOf eta → (n : Float) → n ≡ sampleOneAt step eta wl → n ≡ etaAt eta wl
+unfolding etaAt sampleOne
+eta-from step eta wl s n e = e ∙ ap (λ (x : Float). sampleOneAt x eta wl) s
+
+pub k-from : (step : Float) (eta k : List Float) (wl : Float) → step ≡ stepOf eta → (x : Float) → x ≡ sampleOneAt step k wl → x ≡ kAt eta k wl
+unfolding kAt
+k-from step eta k wl s x e = e ∙ ap (λ (y : Float). sampleOneAt y k wl) s

@@ -20,10 +20,10 @@ use Rattle.floats.proofs.Rounding.Shares.{shares}
 use Rattle.floats.specs.Float.{_⊕_, _⊖_, _⊗_, f0, f1, decimal, within}
 use Rattle.numbers.specs.DenseSpectrum.{stepOf, isTable, oneSpacing, terminated, entry, interpolate, upperPoint, upperLambda, upperWeight, sampleOneAt, sampleOne, allWithin, isWavelength}
 use Rattle.optics.specs.Surface.{etaMin, etaMax, etaHolds, allZero, kEntriesHold, kHolds, etaAt, kAt}
-use Rattle.optics.specs.declared.microfacet.Kind.the-variants.{Glass}
+use Rattle.optics.specs.declared.microfacet.{Kind.Kind, Kind.the-variants.Glass}
 use Rattle.floats.proofs.Rounding.Sizes.{f0-upto, f0-parts, fine-N}
 use Rattle.numbers.proofs.dense_spectrum.Every.{entry-every}
-use Rattle.numbers.proofs.dense_spectrum.Spacing.{shared-table}
+use Rattle.numbers.proofs.dense_spectrum.Spacing.{shared-step, shared-table}
 
 abbrev B : Format
 B = binary64
@@ -133,12 +133,18 @@ zero-sample k w all table z f h = ended (eq w terminated)
     ended true = nil-ext
     ended false = between (eq w (upperLambda step w)) refl
 
+-- on a surface that is accepted k is read at its own spacing, as any spectrum is
+pub k-own : (kind : Kind) (eta k : List Float) (lambda : Float) → T (kHolds kind eta k) → kAt eta k lambda ≡ sampleOne k lambda
+unfolding kHolds kAt sampleOne
+k-own kind eta k lambda holds =
+    ap (λ (step : Float). sampleOneAt step k lambda) (shared-step eta k (and-l (oneSpacing eta k) (kEntriesHold kind k) holds))
+
 -- on glass k is all zero
 pub glass-k-zero : (eta k : List Float) (lambda : Float) → AllFit k → T (etaHolds eta) → T (kHolds Glass eta k) → T (fits B lambda) → T (isWavelength lambda)
-    → T (eq (kAt k lambda) f0)
-unfolding etaHolds kHolds kEntriesHold kAt
+    → T (eq (kAt eta k lambda) f0)
+unfolding etaHolds kHolds kEntriesHold
 glass-k-zero eta k lambda all eta-holds k-holds f w =
     let spacing = and-l (oneSpacing eta k) (allZero k) k-holds in
     let zeros = and-r (oneSpacing eta k) (allZero k) k-holds in
     let table = shared-table eta k spacing (and-l (isTable eta) (allWithin etaMin etaMax eta) eta-holds) in
-    zero-eq (sampleOne k lambda) (zero-sample k lambda all table zeros f w)
+    rw (k-own Glass eta k lambda k-holds) (zero-eq (sampleOne k lambda) (zero-sample k lambda all table zeros f w))

@@ -91,4 +91,4 @@ pdfOf Glass a eta k reflection wo wi = dielectricPdf a eta k reflection wo wi
 
 unfoldable pub pdf : Microsurface → Vec3 → Vec3 → Bool → Float → Float
 pdf m wo wi reflection lambda =
-    pdfOf (m .kind) (m .roughness) (etaAt (m .eta) lambda) (kAt (m .k) lambda) reflection wo wi
+    pdfOf (m .kind) (m .roughness) (etaAt (m .eta) lambda) (kAt (m .eta) (m .k) lambda) reflection wo wi

@@ -73,4 +73,4 @@ unfoldable pub fAt : Vec3 → Vec3 → Float → Float → Float
 fAt wo wh eta k = fresnel (dot wo wh) eta k
 
 unfoldable pub f : List Float → List Float → Vec3 → Vec3 → Color → Color
-f eta k wo wh lambda = each (λ wl. fAt wo wh (etaAt eta wl) (kAt k wl)) lambda
+f eta k wo wh lambda = each (λ wl. fAt wo wh (etaAt eta wl) (kAt eta k wl)) lambda

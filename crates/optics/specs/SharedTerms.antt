@@ -1,13 +1,16 @@
 -- The forms in which a term that is needed twice is computed once and handed on: the sine of the polar angle, wo · wh, Λ(wo), and Snell's law. Definitions only.
 -- From the term itself each is its formula of Facets.antt, Fresnel.antt, Bxdf.antt or Density.antt, by the laws of proofs/SharedTerms.antt.
 use mathlib.Core.Bool.{Bool, true, false, cond}
+use mathlib.Core.List.{List}
 use lib.Ieee.{Float, neg, lt, eq}
 use Rattle.floats.specs.Float.{_⊕_, _⊗_, _⊘_, f0, f1, f-1, epsilon, max, abs, clamp, signum}
 use Rattle.numbers.specs.SphericalUtils.{cosTheta}
 use Rattle.numbers.specs.Vec3.{negate}
 use Rattle.numbers.specs.declared.{vec2.Vec2.Vec2, vec3.Vec3.Vec3}
 use Rattle.optics.specs.Facets.{lambda, masked, d}
-use Rattle.optics.specs.Fresnel.{indexFrom, sin2I, isTotal, cosI, unpolarized, frComplex}
+use Rattle.numbers.specs.DenseSpectrum.{sampleOneAt}
+use Rattle.optics.specs.Color.{Color, each}
+use Rattle.optics.specs.Fresnel.{fAt, indexFrom, sin2I, isTotal, cosI, unpolarized, frComplex}
 use Rattle.optics.specs.Bxdf.{Outgoing, total, reflect, bent, acrossOnly, Scattered, branch, reflects}
 pub use Rattle.optics.specs.declared.microfacet.Snell.{Snell}
 
@@ -55,3 +58,7 @@ refractFrom s cosO wo n =
 unfoldable pub dielectricFromSnell : Snell → Float → Float → Float → Vec3 → Vec3 → Scattered
 dielectricFromSnell s cosO F u wo wh =
     cond (reflects u F) (branch true (reflect wo wh)) (branch false (refractFrom s cosO wo wh))
+
+-- ---- Fresnel's terms at four wavelengths with eta's step at hand
+unfoldable pub fFrom : Float → List Float → List Float → Vec3 → Vec3 → Color → Color
+fFrom step eta k wo wh lambda = each (λ wl. fAt wo wh (sampleOneAt step eta wl) (sampleOneAt step k wl)) lambda

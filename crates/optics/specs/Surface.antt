@@ -5,7 +5,7 @@ use lib.Ieee.{Float, fin}
 use lib.IntN.{pos}
 use lib.Dec.{eqb, leb}
 use Rattle.floats.specs.Float.{f0, f1, decimal, max, within}
-use Rattle.numbers.specs.DenseSpectrum.{isTable, oneSpacing, sampleOne, isConstant, allWithin}
+use Rattle.numbers.specs.DenseSpectrum.{stepOf, isTable, oneSpacing, sampleOneAt, sampleOne, isConstant, allWithin}
 use Rattle.numbers.specs.Vec2.{splat}
 use Rattle.numbers.specs.declared.vec2.Vec2.{Vec2}
 pub use Rattle.optics.specs.declared.microfacet.{Kind.Kind, Kind.the-variants.Metal, Kind.the-variants.Glass, Surface.Surface}
@@ -79,8 +79,9 @@ kHolds kind eta k = oneSpacing eta k && kEntriesHold kind k
 unfoldable pub etaAt : List Float → Float → Float
 etaAt eta lambda = sampleOne eta lambda
 
-unfoldable pub kAt : List Float → Float → Float
-kAt k lambda = sampleOne k lambda
+-- k at eta's spacing, which is its own on every surface that is accepted (`k-own`, proofs/Spectra.antt)
+unfoldable pub kAt : List Float → List Float → Float → Float
+kAt eta k lambda = sampleOneAt (stepOf eta) k lambda
 
 unfoldable pub constantEta : List Float → Bool
 constantEta eta = isConstant eta

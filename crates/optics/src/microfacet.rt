@@ -6,7 +6,6 @@ use floats::square_root::sqrt;
 use floats::square_root::sqrt_or_zero;
 use numbers::EPSILON;
 use numbers::complex::Complex;
-use numbers::dense_spectrum;
 use numbers::dense_spectrum::DenseSpectrum;
 use numbers::dense_spectrum::GridPoint;
 use numbers::vec2::Vec2;
@@ -14,8 +13,9 @@ use numbers::vec3::Vec3;
 ghost use mathlib.Core.Path.{_≡_};
 ghost use mathlib.Core.Bool.{cond};
 ghost use Rattle.floats.specs.Float.{f0};
+ghost use Rattle.numbers.specs.DenseSpectrum.{sampleOneAt};
 ghost use Rattle.optics.specs.Facets.{isDelta, lambda, chiPass, g1, g, gOverG1, d, sampleNormalPdf, fSchlick, disneyDiffuse};
-ghost use Rattle.optics.specs.SharedTerms.{azimuth, chiPassAt, g1At, gOverG1At, sampleNormalPdfAt, snell, frRealFrom, fresnelFrom};
+ghost use Rattle.optics.specs.SharedTerms.{azimuth, chiPassAt, g1At, gOverG1At, sampleNormalPdfAt, snell, frRealFrom, fresnelFrom, fFrom};
 ghost use Rattle.optics.specs.Fresnel.{indexFrom, frReal, complexCosI, rPar, rPer, frComplexFacing, frComplex, fresnel, fAt, f};
 ghost use Rattle.optics.specs.Surface.{kindCode, isKindCode, kindOf, etaAt, kAt, constantEta};
 ghost use Rattle.optics.specs.Sampler.{viewed, tangent, onHemisphere, combined, unstretched, sampleNormal};
@@ -83,11 +83,11 @@ pub fn eta_at(eta: &[f64], wl: f64) -> f64
     DenseSpectrum::sample_one(eta, wl)
 }
 
-// The absorption coefficient at one wavelength.
-pub fn k_at(k: &[f64], wl: f64) -> f64
-    ensures { λ r. ⌜ r ≡ kAt (now (k .entry)) wl ⌝ }
+// The absorption coefficient at one wavelength, with eta's spacing.
+pub fn k_at(eta: &[f64], k: &[f64], wl: f64) -> f64
+    ensures { λ r. ⌜ r ≡ kAt (now (eta .entry)) (now (k .entry)) wl ⌝ }
 {
-    DenseSpectrum::sample_one(k, wl)
+    DenseSpectrum::sample_from(k, GridPoint::new(DenseSpectrum::step(eta), wl))
 }
 
 // The refraction index and the absorption coefficient at one wavelength.
@@ -96,20 +96,20 @@ pub struct OpticalConstants {
     pub k: f64,
 }
 
-// Both. The spectra of a surface share one spacing, and so the wavelength's place among the grid points.
 pub fn optical_constants(eta: &[f64], k: &[f64], wl: f64) -> OpticalConstants
-    ensures { λ r. ⌜ (r .eta ≡ etaAt (now (eta .entry)) wl) × (r .k ≡ kAt (now (k .entry)) wl) ⌝ }
+    ensures { λ r. ⌜ (r .eta ≡ etaAt (now (eta .entry)) wl) × (r .k ≡ kAt (now (eta .entry)) (now (k .entry)) wl) ⌝ }
 {
-    if dense_spectrum::one_spacing(eta, k) {
-        let point = GridPoint::new(DenseSpectrum::step(eta), wl);
-        return OpticalConstants {
-            eta: DenseSpectrum::sample_from(eta, point),
-            k: DenseSpectrum::sample_from(k, point),
-        };
-    }
+    constants_at(DenseSpectrum::step(eta), eta, k, wl)
+}
+
+// Both, from the wavelength's one place among the grid points, which are `step` apart.
+pub fn constants_at(step: f64, eta: &[f64], k: &[f64], wl: f64) -> OpticalConstants
+    ensures { λ r. ⌜ (r .eta ≡ sampleOneAt step (now (eta .entry)) wl) × (r .k ≡ sampleOneAt step (now (k .entry)) wl) ⌝ }
+{
+    let point = GridPoint::new(step, wl);
     OpticalConstants {
-        eta: eta_at(eta, wl),
-        k: k_at(k, wl),
+        eta: DenseSpectrum::sample_from(eta, point),
+        k: DenseSpectrum::sample_from(k, point),
     }
 }
 
@@ -381,19 +381,26 @@ fn g1_at(lambda_wo: f64, wo_dot_wh: f64, wo: Vec3, wh: Vec3) -> f64
 pub fn f(eta: &[f64], k: &[f64], wo: Vec3, wh: Vec3, lambda: Color) -> Color
     ensures { λ r. ⌜ r ≡ f (now (eta .entry)) (now (k .entry)) wo wh lambda ⌝ }
 {
+    f_from(DenseSpectrum::step(eta), eta, k, wo, wh, lambda)
+}
+
+// `f` with `step`, which is eta's, at hand.
+pub fn f_from(step: f64, eta: &[f64], k: &[f64], wo: Vec3, wh: Vec3, lambda: Color) -> Color
+    ensures { λ r. ⌜ r ≡ fFrom step (now (eta .entry)) (now (k .entry)) wo wh lambda ⌝ }
+{
     let cos_o = wo.dot(wh);
     Color {
-        s0: fresnel_at(eta, k, cos_o, lambda.s0),
-        s1: fresnel_at(eta, k, cos_o, lambda.s1),
-        s2: fresnel_at(eta, k, cos_o, lambda.s2),
-        s3: fresnel_at(eta, k, cos_o, lambda.s3),
+        s0: fresnel_at(step, eta, k, cos_o, lambda.s0),
+        s1: fresnel_at(step, eta, k, cos_o, lambda.s1),
+        s2: fresnel_at(step, eta, k, cos_o, lambda.s2),
+        s3: fresnel_at(step, eta, k, cos_o, lambda.s3),
     }
 }
 
-fn fresnel_at(eta: &[f64], k: &[f64], cos_o: f64, wl: f64) -> f64
-    ensures { λ r. ⌜ r ≡ fresnel «cos_o» (etaAt (now (eta .entry)) wl) (kAt (now (k .entry)) wl) ⌝ }
+fn fresnel_at(step: f64, eta: &[f64], k: &[f64], cos_o: f64, wl: f64) -> f64
+    ensures { λ r. ⌜ r ≡ fresnel «cos_o» (sampleOneAt step (now (eta .entry)) wl) (sampleOneAt step (now (k .entry)) wl) ⌝ }
 {
-    let at = optical_constants(eta, k, wl);
+    let at = constants_at(step, eta, k, wl);
     fresnel(cos_o, at.eta, at.k)
 }
 

@@ -1,6 +1,6 @@
 -- What a bounce that isn't refused answers, from what its stages gave, one after the other: on metal (`metal-backface`, `metal-lost`, `metal-sent`)
 -- and on glass (`glass-lost`, `glass-sent`). The stages are variables here, so that a definition is opened where it is small.
-use mathlib.Core.Path.{_≡_}
+use mathlib.Core.Path.{_≡_, ap, _∙_}
 use mathlib.Core.Bool.{Bool, true, false, cond}
 use mathlib.Core.List.{List}
 use lib.Ieee.{Float}
@@ -10,7 +10,7 @@ use Rattle.numbers.specs.declared.onb.Onb.{Onb}
 use Rattle.numbers.specs.declared.vec2.Vec2.{Vec2}
 use Rattle.numbers.specs.declared.vec3.Vec3.{Vec3}
 use Rattle.optics.specs.Color.{color}
-use Rattle.optics.specs.Surface.{Microsurface, etaAt, kAt}
+use Rattle.optics.specs.Surface.{Microsurface, etaAt, kAt, constantEta}
 use Rattle.optics.specs.Facets.{isDelta}
 use Rattle.optics.specs.Fresnel.{fAt, f}
 use Rattle.optics.specs.Bxdf.{sampled, rest, isSmooth, conductorNormal, conductorFrom, dielectricNormal, dielectricFrom}
@@ -22,7 +22,7 @@ use Rattle.optics.specs.declared.microfacet.Kind.the-variants.{Metal, Glass}
 use Rattle.path.specs.declared.records.Path.{Path}
 use Rattle.path.specs.declared.records.Bounce.{Bounce}
 use Rattle.path.specs.declared.records.Shares.the-variants.{None, Of}
-use Rattle.path.specs.Path.{path, each2, weighed, leading}
+use Rattle.path.specs.Path.{path, each2, weighed, leading, terminate}
 use Rattle.path.specs.Bounce.{advanced, lambdaOn, leftOn, leftOnGlass, scatter, scatterOn, localWo, leadingEta, facet, facetOf, share, weights, weightsFrom, weightsOf, weightFrom, filter, metalFilter, fresnelAt, shadowing, shadowingOn, oneDirection}
 use Rattle.path.specs.Answer.{lost, reflected, onSurface, worked, shares, sharesOn, branchOf, density, densityOf}
 use Rattle.path.proofs.Direction.{Directionless, no-direction, no-weights, metal-reflects}
@@ -65,9 +65,14 @@ metal-sent p a eta k b front u eu wo ewo wh ewh s es wi r es' =
 abbrev glass : Vec2 → List Float → List Float → Microsurface
 glass a eta k = record { kind = Glass; roughness = a; eta = eta; k = k }
 
+pub left-from : (constant : Bool) (eta : List Float) (lambda : Color) → constant ≡ constantEta eta
+    → (l : Color) → l ≡ cond constant lambda (terminate lambda) → l ≡ leftOnGlass eta lambda
+unfolding leftOnGlass
+left-from constant eta lambda c l e = e ∙ ap (λ (b : Bool). cond b lambda (terminate lambda)) c
+
 pub glass-lost : (p : Path) (a : Vec2) (eta k : List Float) (b : Bounce)
     → (l : Color) → l ≡ leftOnGlass eta (p .lambda)
-    → (wl : Float) → wl ≡ leading l → (n : Float) → n ≡ etaAt eta wl → (x : Float) → x ≡ kAt k wl
+    → (wl : Float) → wl ≡ leading l → (n : Float) → n ≡ etaAt eta wl → (x : Float) → x ≡ kAt eta k wl
     → (u : Onb) → u ≡ basis (b .normal)
     → (wo : Vec3) → wo ≡ toLocal u (b .wo)
     → (wh : Vec3) → wh ≡ dielectricNormal a n wo (b .disk) (b .c) (b .s)
@@ -80,7 +85,7 @@ glass-lost p a eta k b l el wl ewl n en x ex u eu wo ewo wh ewh F eF s es none =
 
 pub glass-sent : (p : Path) (a : Vec2) (eta k : List Float) (b : Bounce)
     → (l : Color) → l ≡ leftOnGlass eta (p .lambda)
-    → (wl : Float) → wl ≡ leading l → (n : Float) → n ≡ etaAt eta wl → (x : Float) → x ≡ kAt k wl
+    → (wl : Float) → wl ≡ leading l → (n : Float) → n ≡ etaAt eta wl → (x : Float) → x ≡ kAt eta k wl
     → (u : Onb) → u ≡ basis (b .normal)
     → (wo : Vec3) → wo ≡ toLocal u (b .wo)
     → (wh : Vec3) → wh ≡ dielectricNormal a n wo (b .disk) (b .c) (b .s)

@@ -117,7 +117,7 @@ module _ (p : Path) (m : Microsurface) (b : Bounce) (h : Given p m b) where
   unfolding leadingEta
   index = eta-index (m .eta) (leading (lambdaOn m (p .lambda))) (all-fit (m .eta) (h .step .eta)) (h .ok .eta) leading-fits leading-in
 
-  no-k : m .kind ≡ Glass → T (eq (kAt (m .k) (leading (lambdaOn m (p .lambda)))) f0)
+  no-k : m .kind ≡ Glass → T (eq (kAt (m .eta) (m .k) (leading (lambdaOn m (p .lambda)))) f0)
   no-k g =
       glass-k-zero (m .eta) (m .k) (leading (lambdaOn m (p .lambda))) (all-fit (m .k) (h .step .k)) (h .ok .eta)
       (subst (λ (kind : Kind). T (kHolds kind (m .eta) (m .k))) g (h .ok .k)) leading-fits leading-in
@@ -131,7 +131,7 @@ module _ (p : Path) (m : Microsurface) (b : Bounce) (h : Given p m b) where
   unfolding share fresnelAt leadingEta
   shares-hold g =
       let lambda = lambdaOn m (p .lambda) in
-      glass-shares (localWo b) (facet m lambda b) (leadingEta m lambda) (kAt (m .k) (leading lambda)) local-wo facet-unitary index (no-k g)
+      glass-shares (localWo b) (facet m lambda b) (leadingEta m lambda) (kAt (m .eta) (m .k) (leading lambda)) local-wo facet-unitary index (no-k g)
 
   -- ---- metal: a backface loses the light
   metal-scattered : Outcome (scatterOn Metal m (lambdaOn m (p .lambda)) b)
@@ -148,7 +148,7 @@ module _ (p : Path) (m : Microsurface) (b : Bounce) (h : Given p m b) where
   never-on Metal e t = subst (λ (s : Scattered). Outcome s) t metal-scattered
   never-on Glass e t =
       let lambda = lambdaOn m (p .lambda) in
-      glass-never-total (leadingEta m lambda) (kAt (m .k) (leading lambda)) (b .u) (localWo b) (facet m lambda b) index (no-k e) below-one local-wo facet-unitary t
+      glass-never-total (leadingEta m lambda) (kAt (m .eta) (m .k) (leading lambda)) (b .u) (localWo b) (facet m lambda b) index (no-k e) below-one local-wo facet-unitary t
 
   pub never-total : scatter m (lambdaOn m (p .lambda)) b ≡ totally → ⊥
   unfolding scatter
@@ -160,7 +160,7 @@ module _ (p : Path) (m : Microsurface) (b : Bounce) (h : Given p m b) where
   span-on Metal e wi reflection t = subst (λ (s : Scattered). Outcome s) t metal-scattered
   span-on Glass e wi reflection t =
       let lambda = lambdaOn m (p .lambda) in
-      glass-direction (leadingEta m lambda) (kAt (m .k) (leading lambda)) (b .u) (localWo b) (facet m lambda b) wi reflection index (no-k e) below-one local-wo facet-unitary t
+      glass-direction (leadingEta m lambda) (kAt (m .eta) (m .k) (leading lambda)) (b .u) (localWo b) (facet m lambda b) wi reflection index (no-k e) below-one local-wo facet-unitary t
 
   pub direction-span : (wi : Vec3) (reflection : Bool) → scatter m (lambdaOn m (p .lambda)) b ≡ scattered wi reflection → Span reach wi
   unfolding scatter

@@ -3,7 +3,7 @@
 -- computed from its definition; a stage puts leaves together by `rw`, for any roughness and spectra that are delta and read so.
 use Prim.Native.Nat.{ℕ, zero, suc}
 use mathlib.Core.Path.{_≡_, refl}
-use mathlib.Core.Bool.{Bool, true, false, _||_, or-true}
+use mathlib.Core.Bool.{Bool, true, false, or-true}
 use mathlib.Core.List.{List}
 use lib.IntN.{pos}
 use lib.ListN.{replicate}
@@ -55,16 +55,20 @@ l2 = grid .s2
 abbrev l3 : Float
 l3 = grid .s3
 
--- a spectrum reads x at each of them
-record Reads (values : List Float) (x : Float) : Type 0 where
-  r0 : sampleOne values l0 ≡ x
-  r1 : sampleOne values l1 ≡ x
-  r2 : sampleOne values l2 ≡ x
-  r3 : sampleOne values l3 ≡ x
+-- what is read of a spectrum is x at each of them
+record Reads (at : Float → Float) (x : Float) : Type 0 where
+  r0 : at l0 ≡ x
+  r1 : at l1 ≡ x
+  r2 : at l2 ≡ x
+  r3 : at l3 ≡ x
 
-reads : (x : Float) → Reads (constant x) x
-unfolding stepOf sampleOne sampleOneAt upperPoint upperLambda upperWeight ceiling interpolate add sub mul div lt eq ofInt toUnsigned
-reads x = record { r0 = refl; r1 = refl; r2 = refl; r3 = refl }
+reads-eta : (x : Float) → Reads (etaAt (constant x)) x
+unfolding etaAt stepOf sampleOne sampleOneAt upperPoint upperLambda upperWeight ceiling interpolate add sub mul div lt eq ofInt toUnsigned
+reads-eta x = record { r0 = refl; r1 = refl; r2 = refl; r3 = refl }
+
+reads-k : (x y : Float) → Reads (kAt (constant x) (constant y)) y
+unfolding kAt stepOf sampleOneAt upperPoint upperLambda upperWeight ceiling interpolate add sub mul div lt eq ofInt toUnsigned
+reads-k x y = record { r0 = refl; r1 = refl; r2 = refl; r3 = refl }
 
 -- ---- the checks
 every-replicate : (p : Float → Bool) (x : Float) → p x ≡ true → (n : ℕ) → every p (replicate n x) ≡ true
@@ -142,12 +146,12 @@ metal-density : (a : Vec2) → isDelta a ≡ true → conductorPdf a Z Z' ≡ f1
 unfolding conductorPdf conductorPdfFrom sameHemisphere cosTheta conductorHalf onZSide atZ normalize length lengthSquared dot divFloat negate V3.add epsilon decimal max isNan squareRoot add sub mul div neg lt
 metal-density a h = rw h
 
-module _ (a : Vec2) (eta k : List Float) (delta : isDelta a ≡ true) (eta-1 : Reads eta f1) (k-2 : Reads k f2) where
+module _ (a : Vec2) (eta k : List Float) (delta : isDelta a ≡ true) (eta-1 : Reads (etaAt eta) f1) (k-2 : Reads (kAt eta k) f2) where
   metal-facet : (u : Float) → facet (metal a eta k) grid (along u) ≡ Z
   unfolding facet facetOf conductorNormal
   metal-facet u = rw delta
 
-  metal-fresnel : (u l : Float) → etaAt eta l ≡ f1 → kAt k l ≡ f2 → fresnelAt (metal a eta k) grid (along u) l ≡ half
+  metal-fresnel : (u l : Float) → etaAt eta l ≡ f1 → kAt eta k l ≡ f2 → fresnelAt (metal a eta k) grid (along u) l ≡ half
   unfolding fresnelAt
   metal-fresnel u l p q = rw (local u, metal-facet u, p, q, Optics.samples .f-at-complex)
 
@@ -160,13 +164,13 @@ module _ (a : Vec2) (eta k : List Float) (delta : isDelta a ≡ true) (eta-1 : R
   metal-shadowing u wi = rw delta
 
   metal-weight :
-      (u l : Float) → eq l f0 ≡ false → etaAt eta l ≡ f1 → kAt k l ≡ f2 →
+      (u l : Float) → eq l f0 ≡ false → etaAt eta l ≡ f1 → kAt eta k l ≡ f2 →
       weightFrom (scattered Z' true) (metal a eta k) grid (along u) l f1 f1 ≡ half
   unfolding weightFrom weight filter metalFilter
   metal-weight u l z p q = rw (z, metal-fresnel u l p q, metal-shadowing u Z', metal-weight-half)
 
   metal-weights : (u : Float) → weights (metal a eta k) grid (along u) ≡ all half
-  unfolding weights weightsFrom etaAt kAt eq
+  unfolding weights weightsFrom eq
   metal-weights u =
       rw (
         metal-scatter u,
@@ -241,13 +245,13 @@ module _ (a : Vec2) (delta : isDelta a ≡ true) where
   unfolding dielectricPdf dielectricPdfFrom etaRatio dielectricHalf onZSide isDiscarded passedPdf atZ rest fAt normalize length lengthSquared dot divFloat negate V3.add cosTheta epsilon decimal max isNan squareRoot add sub mul div neg lt eq
   passed-density = rw (fresnel-3, smooth-3)
 
-module _ (a : Vec2) (eta k : List Float) (delta : isDelta a ≡ true) (same : constantEta eta ≡ true) (eta-3 : Reads eta f3) (k-0 : Reads k f0) where
+module _ (a : Vec2) (eta k : List Float) (delta : isDelta a ≡ true) (same : constantEta eta ≡ true) (eta-3 : Reads (etaAt eta) f3) (k-0 : Reads (kAt eta k) f0) where
   glass-lambda : lambdaOn (glass a eta k) grid ≡ grid
   unfolding lambdaOn leftOn leftOnGlass
   glass-lambda = rw same
 
   glass-eta : leadingEta (glass a eta k) grid ≡ f3
-  unfolding leadingEta leading etaAt
+  unfolding leadingEta leading
   glass-eta = eta-3 .r0
 
   glass-facet : (u : Float) → facet (glass a eta k) grid (along u) ≡ Z
@@ -255,7 +259,7 @@ module _ (a : Vec2) (eta k : List Float) (delta : isDelta a ≡ true) (same : co
   glass-facet u = rw (glass-eta, smooth-3 a delta)
 
   glass-share : (u : Float) → share (glass a eta k) grid (along u) ≡ quarter
-  unfolding share fresnelAt leading etaAt kAt fAt dot add mul
+  unfolding share fresnelAt leading fAt dot add mul
   glass-share u = rw (local u, glass-facet u, eta-3 .r0, k-0 .r0, fresnel-3)
 
   glass-reflects : scatter (glass a eta k) grid (along (decimal 2 10)) ≡ scattered Z true
@@ -298,7 +302,7 @@ module _ (a : Vec2) (eta k : List Float) (delta : isDelta a ≡ true) (same : co
       dielectricPdf a f3 f0 r Z wi ≡ d → isFinite d ≡ true →
       bounce (path grid (all f1)) (glass a eta k) (along u) ≡
       branchOf r w (D.Finite d) (S.Of quarter three-quarters) (path grid (all f1))
-  unfolding bounce answered onSurface worked advanced weighed density densityOf pdf pdfOf leading etaAt kAt shares sharesOn mul
+  unfolding bounce answered onSurface worked advanced weighed density densityOf pdf pdfOf leading shares sharesOn mul
   glass-bounce u d wi w r ok s t p f =
       rw (
         ok,
@@ -335,13 +339,13 @@ glass-constant = every-replicate (eq f3) f3 refl 95
 once : bounce (path grid (all f1)) deltaMetal (along f0) ≡ reflected Z (D.Finite f1) S.None (path grid (all half))
 unfolding surface isPower within le mul
 once =
-    metal-bounce smooth (constant f1) (constant f2) smooth-delta (reads f1) (reads f2)
+    metal-bounce smooth (constant f1) (constant f2) smooth-delta (reads-eta f1) (reads-k f1 f2)
     f1 half f0 (metal-accepted f1 refl) refl
 
 again : bounce (path grid (all half)) deltaMetal (along f0) ≡ reflected Z (D.Finite f1) S.None (path grid (all quarter))
 unfolding surface isPower within le mul
 again =
-    metal-bounce smooth (constant f1) (constant f2) smooth-delta (reads f1) (reads f2)
+    metal-bounce smooth (constant f1) (constant f2) smooth-delta (reads-eta f1) (reads-k f1 f2)
     half quarter f0 (metal-accepted half refl) refl
 
 abbrev u0 : Float
@@ -350,17 +354,17 @@ u0 = decimal 2 10
 reflects-u0 : bounce (path grid (all f1)) deltaGlass (along u0) ≡ reflected Z (D.Finite quarter) (S.Of quarter three-quarters) (path grid (all f1))
 unfolding surface branchOf isFinite isRandom decimal lt le
 reflects-u0 =
-    glass-bounce smooth (constant f3) (constant f0) smooth-delta glass-constant (reads f3) (reads f0)
+    glass-bounce smooth (constant f3) (constant f0) smooth-delta glass-constant (reads-eta f3) (reads-k f3 f0)
     u0 quarter Z Z true (glass-accepted u0 refl)
-    (glass-reflects smooth (constant f3) (constant f0) smooth-delta glass-constant (reads f3) (reads f0))
+    (glass-reflects smooth (constant f3) (constant f0) smooth-delta glass-constant (reads-eta f3) (reads-k f3 f0))
     world-Z (reflected-density smooth smooth-delta) refl
 
 passes-quarter : bounce (path grid (all f1)) deltaGlass (along quarter) ≡ passed (vec3 f0 f0 f-1) (D.Finite three-quarters) (S.Of quarter three-quarters) (path grid (all f1))
 unfolding surface branchOf isFinite isRandom lt le
 passes-quarter =
-    glass-bounce smooth (constant f3) (constant f0) smooth-delta glass-constant (reads f3) (reads f0)
+    glass-bounce smooth (constant f3) (constant f0) smooth-delta glass-constant (reads-eta f3) (reads-k f3 f0)
     quarter three-quarters -Z (vec3 f0 f0 f-1) false (glass-accepted quarter refl)
-    (glass-passes smooth (constant f3) (constant f0) smooth-delta glass-constant (reads f3) (reads f0))
+    (glass-passes smooth (constant f3) (constant f0) smooth-delta glass-constant (reads-eta f3) (reads-k f3 f0))
     world--Z (passed-density smooth smooth-delta) refl
 
 bounces : Samples

@@ -81,7 +81,7 @@ weight-from (scattered wi reflection) m lambda b wavelength ks tf q x y = go (eq
     eta = etaAt (m .eta) wavelength
 
     k : Float
-    k = kAt (m .k) wavelength
+    k = kAt (m .eta) (m .k) wavelength
 
     taken : Float
     taken = filter (m .kind) reflection (fresnelAt m lambda b wavelength) ks tf

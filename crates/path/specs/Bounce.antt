@@ -63,7 +63,7 @@ facet m lambda b = facetOf (m .kind) m lambda b
 -- F at a wavelength, for local wo and the facet's normal
 unfoldable pub fresnelAt : Microsurface → Color → Bounce → Float → Float
 fresnelAt m lambda b wavelength =
-    fAt (localWo b) (facet m lambda b) (etaAt (m .eta) wavelength) (kAt (m .k) wavelength)
+    fAt (localWo b) (facet m lambda b) (etaAt (m .eta) wavelength) (kAt (m .eta) (m .k) wavelength)
 
 unfoldable pub share : Microsurface → Color → Bounce → Float
 share m lambda b = fresnelAt m lambda b (leading lambda)

@@ -1,10 +1,10 @@
 -- What many bounces on one surface find out once: a form that serves speed alone. Definitions only.
-use mathlib.Core.{Bool.Bool, List.List}
+use mathlib.Core.{Bool.Bool, Bool.false, List.List}
 use lib.Ieee.{Float}
 use Rattle.optics.specs.Surface.{constantEta}
-pub use Rattle.path.specs.declared.bsdf.Constant.{Constant, the-variants.Known, the-variants.Unknown}
+use Rattle.optics.specs.declared.microfacet.{Kind.Kind, Kind.the-variants.Metal, Kind.the-variants.Glass}
 
--- whether eta is constant, from what is known of it
-unfoldable pub constantFrom : Constant → List Float → Bool
-constantFrom (Known constant) eta = constant
-constantFrom Unknown eta = constantEta eta
+-- whether eta is constant, which nothing asks of metal
+unfoldable pub constantOn : Kind → List Float → Bool
+constantOn Metal eta = false
+constantOn Glass eta = constantEta eta

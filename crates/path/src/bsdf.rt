@@ -9,6 +9,7 @@ use crate::records::Shares;
 use crate::wavelength;
 use crate::weight;
 use floats::float;
+use numbers::dense_spectrum::DenseSpectrum;
 use numbers::onb::Onb;
 use numbers::refusal::Check;
 use numbers::vec3::Vec3;
@@ -28,15 +29,16 @@ ghost use Rattle.floats.specs.Float.{f0};
 ghost use Rattle.optics.specs.Color.{color};
 ghost use Rattle.numbers.specs.Refusal.{verdict};
 ghost use Rattle.numbers.specs.Vec3.{dot};
+ghost use Rattle.numbers.specs.DenseSpectrum.{stepOf};
 ghost use Rattle.optics.specs.Check.{checkSurface};
 ghost use Rattle.optics.specs.Surface.{microsurface, constantEta};
 ghost use Rattle.optics.specs.Facets.{isDelta, lambda};
 ghost use Rattle.optics.specs.Bxdf.{isSmooth};
 ghost use Rattle.optics.specs.Density.{conductorPdf, dielectricPdf};
 ghost use Rattle.optics.specs.declared.microfacet.Kind.the-variants.{Metal, Glass};
-ghost use Rattle.path.specs.Path.{path, weighed};
-ghost use Rattle.path.specs.Bounce.{leftOnGlass, shadowing};
-ghost use Rattle.path.specs.Known.{constantFrom};
+ghost use Rattle.path.specs.Path.{path, weighed, terminate};
+ghost use Rattle.path.specs.Bounce.{shadowing};
+ghost use Rattle.path.specs.Known.{constantOn};
 ghost use Rattle.path.specs.Answer.{outcome, lost, densityOf, branchOf, onSurface, bounce};
 
 // A bounce of `path` on a surface, whose spectra `eta` and `k` are lent beside it.
@@ -44,27 +46,25 @@ pub fn bounce(path: Path, surface: Surface, eta: &[f64], k: &[f64], b: Bounce) -
     ensures { λ r. ⌜ outcome r ≡ bounce path (microsurface surface (now (eta .entry)) (now (k .entry))) b ⌝ }
 {
     let check = check_surface(surface, eta, k);
-    bounce_with(check, Constant::Unknown, path, surface, eta, k, b)
+    let kind = surface.kind;
+    let constant = constant_on(kind, eta);
+    let step = DenseSpectrum::step(eta);
+    bounce_with(check, constant, step, path, surface, eta, k, b)
 }
 
-// What is known of whether eta is constant.
-pub(crate) enum Constant {
-    Known(bool),
-    Unknown,
-}
-
-// A bounce on a surface, from what its check gave and what is known of its eta, so that many bounces
-// ask both once.
+// A bounce on a surface, from what its check gave, whether its eta is constant and the step of its
+// spectra, so that many bounces ask them once.
 pub(crate) fn bounce_with(
     check: Check,
-    constant: Constant,
+    constant: bool,
+    step: f64,
     path: Path,
     surface: Surface,
     eta: &[f64],
     k: &[f64],
     b: Bounce,
 ) -> Bounced
-    requires { ⌜ (verdict check ≡ checkSurface (microsurface surface (now eta) (now k))) × (constantFrom constant (now eta) ≡ constantEta (now eta)) ⌝ }
+    requires { ⌜ (verdict check ≡ checkSurface (microsurface surface (now eta) (now k))) × (constant ≡ constantOn (surface .kind) (now eta)) × (step ≡ stepOf (now eta)) ⌝ }
     ensures { λ r. ⌜ outcome r ≡ bounce path (microsurface surface (now (eta .entry)) (now (k .entry))) b ⌝ }
 {
     if let Check::Refused(why) = check.then(check::check_rest(path, b)) {
@@ -72,34 +72,24 @@ pub(crate) fn bounce_with(
     }
     let kind = surface.kind;
     match kind {
-        Kind::Metal => on_metal(path, surface, eta, k, b),
-        Kind::Glass => on_glass(constant, path, surface, eta, k, b),
+        Kind::Metal => on_metal(step, path, surface, eta, k, b),
+        Kind::Glass => on_glass(constant, step, path, surface, eta, k, b),
     }
 }
 
-// What many bounces on a surface find out once. Nothing asks it of metal.
-pub(crate) fn constant_on(surface: Surface, eta: &[f64]) -> Constant
-    ensures { λ r. ⌜ constantFrom r (now (eta .entry)) ≡ constantEta (now (eta .entry)) ⌝ }
+// Whether eta is constant. Nothing asks it of metal.
+pub(crate) fn constant_on(kind: Kind, eta: &[f64]) -> bool
+    ensures { λ r. ⌜ r ≡ constantOn kind (now (eta .entry)) ⌝ }
 {
-    let kind = surface.kind;
     match kind {
-        Kind::Metal => Constant::Unknown,
-        Kind::Glass => Constant::Known(microfacet::constant_eta(eta)),
-    }
-}
-
-fn is_constant(constant: Constant, eta: &[f64]) -> bool
-    ensures { λ r. ⌜ r ≡ constantFrom constant (now (eta .entry)) ⌝ }
-{
-    match constant {
-        Constant::Known(known) => known,
-        Constant::Unknown => microfacet::constant_eta(eta),
+        Kind::Metal => false,
+        Kind::Glass => microfacet::constant_eta(eta),
     }
 }
 
 // Metal reflects light, at its front alone.
-fn on_metal(path: Path, surface: Surface, eta: &[f64], k: &[f64], b: Bounce) -> Bounced
-    requires { ⌜ surface .kind ≡ Metal ⌝ }
+fn on_metal(step: f64, path: Path, surface: Surface, eta: &[f64], k: &[f64], b: Bounce) -> Bounced
+    requires { ⌜ (surface .kind ≡ Metal) × (step ≡ stepOf (now eta)) ⌝ }
     ensures { λ r. ⌜ outcome r ≡ onSurface path (microsurface surface (now (eta .entry)) (now (k .entry))) b ⌝ }
 {
     if b.backface {
@@ -119,7 +109,7 @@ fn on_metal(path: Path, surface: Surface, eta: &[f64], k: &[f64], b: Bounce) -> 
     };
 
     let seen = seen_on_metal(delta, lambda_wo, mfd, wo, wi, wh);
-    let filter = weight::metal_filter(b.ks, microfacet::f(eta, k, wo, wh, path.lambda));
+    let filter = weight::metal_filter(b.ks, microfacet::f_from(step, eta, k, wo, wh, path.lambda));
     Bounced::Reflected {
         wi: uvw.to_world(wi),
         density: density_of(seen.pdf),
@@ -130,23 +120,24 @@ fn on_metal(path: Path, surface: Surface, eta: &[f64], k: &[f64], b: Bounce) -> 
 
 // Glass reflects light or passes it, by its Fresnel term at the leading wavelength.
 fn on_glass(
-    constant: Constant,
+    constant: bool,
+    step: f64,
     path: Path,
     surface: Surface,
     eta: &[f64],
     k: &[f64],
     b: Bounce,
 ) -> Bounced
-    requires { ⌜ (surface .kind ≡ Glass) × (constantFrom constant (now eta) ≡ constantEta (now eta)) ⌝ }
+    requires { ⌜ (surface .kind ≡ Glass) × (constant ≡ constantEta (now eta)) × (step ≡ stepOf (now eta)) ⌝ }
     ensures { λ r. ⌜ outcome r ≡ onSurface path (microsurface surface (now (eta .entry)) (now (k .entry))) b ⌝ }
 {
     // wavelengths end before anything reads them
-    let lambda = left_on_glass(constant, eta, path.lambda);
+    let lambda = left_on_glass(constant, path.lambda);
     let power = path.power;
     let left = Path { lambda, power };
 
     let leading = wavelength::leading_sample(lambda);
-    let at = microfacet::optical_constants(eta, k, leading);
+    let at = microfacet::constants_at(step, eta, k, leading);
 
     let uvw = Onb::new(b.normal);
     let wo = uvw.to_local(b.wo);
@@ -217,12 +208,12 @@ fn sent(reflection: bool, wi: Vec3, density: Density, shares: Shares, path: Path
     }
 }
 
-// The wavelengths that are left on glass: all but the leading one end where it disperses light.
-fn left_on_glass(constant: Constant, eta: &[f64], lambda: Color) -> Color
-    requires { ⌜ constantFrom constant (now eta) ≡ constantEta (now eta) ⌝ }
-    ensures { λ r. ⌜ r ≡ leftOnGlass (now (eta .entry)) lambda ⌝ }
+// The wavelengths that are left on glass: all but the leading one end where it disperses light, its eta not
+// being constant.
+fn left_on_glass(constant: bool, lambda: Color) -> Color
+    ensures { λ r. ⌜ r ≡ cond «constant» lambda (terminate lambda) ⌝ }
 {
-    if is_constant(constant, eta) {
+    if constant {
         return lambda;
     }
     wavelength::terminate(lambda)

@@ -1,11 +1,11 @@
 // Many bounces on one surface, from an array of doubles to another: the surface is checked once, before
 // the first. Each bounce has a path of its own: 27 doubles in, 18 out.
 use crate::bsdf;
-use crate::bsdf::Constant;
 use crate::plain;
 use crate::records::Bounce;
 use crate::records::Bounced;
 use crate::records::Path;
+use numbers::dense_spectrum::DenseSpectrum;
 use numbers::refusal::Check;
 use numbers::vec3::Vec3;
 use optics::check::check_surface;
@@ -17,9 +17,10 @@ ghost use Prim.Native.Nat.{_+_, _*_, _≤_};
 ghost use lib.ListN.{length, drop};
 ghost use lib.Seq.{paste};
 ghost use Rattle.numbers.specs.Refusal.{verdict};
+ghost use Rattle.numbers.specs.DenseSpectrum.{stepOf};
 ghost use Rattle.optics.specs.Check.{checkSurface};
-ghost use Rattle.optics.specs.Surface.{microsurface, constantEta};
-ghost use Rattle.path.specs.Known.{constantFrom};
+ghost use Rattle.optics.specs.Surface.{microsurface};
+ghost use Rattle.path.specs.Known.{constantOn};
 ghost use Rattle.path.specs.Answer.{outcome};
 ghost use Rattle.path.specs.Many.{isSet, pathIn, bounceIn, numbersOut, bounced, bouncedAt, allBounced, countOf};
 
@@ -119,18 +120,19 @@ fn numbers_out(answer: Bounced) -> [f64; 18]
 // One bounce, from its 27 numbers.
 fn one(
     check: Check,
-    constant: Constant,
+    constant: bool,
+    spacing: f64,
     surface: Surface,
     eta: &[f64],
     k: &[f64],
     numbers: &[f64],
 ) -> [f64; 18]
-    requires { ⌜ (length (now numbers) ≡ 27) × (verdict check ≡ checkSurface (microsurface surface (now eta) (now k))) × (constantFrom constant (now eta) ≡ constantEta (now eta)) ⌝ }
+    requires { ⌜ (length (now numbers) ≡ 27) × (verdict check ≡ checkSurface (microsurface surface (now eta) (now k))) × (constant ≡ constantOn (surface .kind) (now eta)) × (spacing ≡ stepOf (now eta)) ⌝ }
     ensures { λ r. ⌜ r ≡ bounced (microsurface surface (now (eta .entry)) (now (k .entry))) (now (numbers .entry)) ⌝ }
 {
     let path = path_in(numbers);
     let b = bounce_in(numbers);
-    numbers_out(bsdf::bounce_with(check, constant, path, surface, eta, k, b))
+    numbers_out(bsdf::bounce_with(check, constant, spacing, path, surface, eta, k, b))
 }
 
 // Stores 18 numbers from `at` on.
@@ -148,7 +150,8 @@ fn put(output: &mut [f64], at: usize, numbers: &[f64; 18])
 // The bounce at `i` of the input, to its place in the output.
 fn step(
     check: Check,
-    constant: Constant,
+    constant: bool,
+    spacing: f64,
     surface: Surface,
     eta: &[f64],
     k: &[f64],
@@ -156,19 +159,20 @@ fn step(
     output: &mut [f64],
     i: usize,
 )
-    requires { ⌜ (27 * i + 27 ≤ length (now input)) × (18 * i + 18 ≤ length (now output)) × (verdict check ≡ checkSurface (microsurface surface (now eta) (now k))) × (constantFrom constant (now eta) ≡ constantEta (now eta)) ⌝ }
+    requires { ⌜ (27 * i + 27 ≤ length (now input)) × (18 * i + 18 ≤ length (now output)) × (verdict check ≡ checkSurface (microsurface surface (now eta) (now k))) × (constant ≡ constantOn (surface .kind) (now eta)) × (spacing ≡ stepOf (now eta)) ⌝ }
     ensures { λ _. ⌜ now (output .exit) ≡ paste (now (output .entry)) (18 * i) (bouncedAt (microsurface surface (now (eta .entry)) (now (k .entry))) (now (input .entry)) i) 18 ⌝ }
 {
     let from = 27 * i;
     let end = from + 27;
-    let numbers = one(check, constant, surface, eta, k, &input[from..end]);
+    let numbers = one(check, constant, spacing, surface, eta, k, &input[from..end]);
     put(output, 18 * i, &numbers);
 }
 
 // The first `n` bounces.
 fn run(
     check: Check,
-    constant: Constant,
+    constant: bool,
+    spacing: f64,
     surface: Surface,
     eta: &[f64],
     k: &[f64],
@@ -176,12 +180,12 @@ fn run(
     output: &mut [f64],
     n: usize,
 )
-    requires { ⌜ (27 * n ≤ length (now input)) × (18 * n ≤ length (now output)) × (verdict check ≡ checkSurface (microsurface surface (now eta) (now k))) × (constantFrom constant (now eta) ≡ constantEta (now eta)) ⌝ }
+    requires { ⌜ (27 * n ≤ length (now input)) × (18 * n ≤ length (now output)) × (verdict check ≡ checkSurface (microsurface surface (now eta) (now k))) × (constant ≡ constantOn (surface .kind) (now eta)) × (spacing ≡ stepOf (now eta)) ⌝ }
     ensures { λ _. ⌜ now (output .exit) ≡ allBounced (microsurface surface (now (eta .entry)) (now (k .entry))) (now (input .entry)) n ++ drop (18 * n) (now (output .entry)) ⌝ }
 {
     let mut i = 0;
     while i < n {
-        step(check, constant, surface, eta, k, input, output, i);
+        step(check, constant, spacing, surface, eta, k, input, output, i);
         i += 1;
     }
 }
@@ -203,7 +207,9 @@ pub fn bounces(surface: Surface, eta: &[f64], k: &[f64], input: &[f64], output: 
 {
     let n = count(input.len(), output.len());
     let check = check_surface(surface, eta, k);
-    let constant = bsdf::constant_on(surface, eta);
-    run(check, constant, surface, eta, k, input, output, n);
+    let kind = surface.kind;
+    let constant = bsdf::constant_on(kind, eta);
+    let spacing = DenseSpectrum::step(eta);
+    run(check, constant, spacing, surface, eta, k, input, output, n);
     n
 }

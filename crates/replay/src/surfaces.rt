@@ -83,7 +83,7 @@ fn apart(fd: i32, number: u64, w: &[f64; 30], eta: &[f64], k: &[f64]) -> bool {
     match number {
         931 => words::same_bool(fd, microfacet::constant_eta(eta)),
         932 => words::same_float(fd, microfacet::eta_at(eta, v.x)),
-        933 => words::same_float(fd, microfacet::k_at(k, v.x)),
+        933 => words::same_float(fd, microfacet::k_at(eta, k, v.x)),
         934 => words::same_color(fd, microfacet::f(eta, k, v, u, words::color(w, 9))),
         962 => {
             let made = counter::make_surface(words::kind(w[0]), w[1], eta, k);

@@ -4,7 +4,7 @@ use Rattle.optics.proofs.microfacet.fresnel_at.Statement.{statement}
 use Rattle.optics.proofs.microfacet.fresnel_at.Tie as tie
 
 returns : tie.Need-returns
-returns c = rw (← c .before .optical-constants .ensures .0, ← c .before .optical-constants .ensures .1, ← c .fresnel .ensures)
+returns c = rw (← c .before .constants-at .ensures .0, ← c .before .constants-at .ensures .1, ← c .fresnel .ensures)
 
 pub fresnel-at-spec : {M : Type 1} → statement M
 fresnel-at-spec = tie.close (tie.spec (λ c κs. search needs) (λ c κs. search needs) returns)

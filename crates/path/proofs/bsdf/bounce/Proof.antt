@@ -1,10 +1,7 @@
--- `path::bsdf::bounce` meets its contract: the check of the surface is made, and nothing is known of eta.
-use mathlib.Core.Path.{refl}
+-- `path::bsdf::bounce` meets its contract: what is asked of the surface is asked first.
 use borrow.Author.Needs.{needs}
-use Rattle.path.specs.Known.{constantFrom}
 use Rattle.path.proofs.bsdf.bounce.Statement.{statement}
 use Rattle.path.proofs.bsdf.bounce.Tie as tie
 
 pub bounce-spec : {M : Type 1} → statement M
-unfolding constantFrom
-bounce-spec = tie.close (tie.spec (λ c κs. search needs) (λ c κs. (c .check-surface .ensures, refl)) (λ c. search needs))
+bounce-spec = tie.close (tie.spec (λ c κs. search needs) (λ c κs. search needs) (λ c κs. search needs) (λ c κs. search needs) (λ c. search needs))

@@ -1,6 +1,7 @@
--- `path::bsdf::on_metal` meets its contract: each stage is what a call gave, and OnSurface has the answer from the stages.
+-- `path::bsdf::on_metal` meets its contract: each stage is what a call gave, the step handed on changes nothing (`f-from`), and OnSurface has the answer from the stages.
 use mathlib.Core.Path.{sym}
 use borrow.Author.Needs.{needs}
+use Rattle.optics.proofs.SharedTerms.{f-from}
 use Rattle.path.specs.Answer.{outcome}
 use Rattle.path.proofs.OnSurface.{metal-backface, metal-lost, metal-sent}
 use Rattle.path.proofs.bsdf.on_metal.Statement.{statement}
@@ -10,7 +11,7 @@ returns : tie.Need-returns
 returns c =
     let at-if1 = c .before in
     let at-pre = at-if1 .before .before .before in
-    rw (at-pre .pre, c .lost .ensures) (sym (metal-backface _ _ _ _ (at-pre .args .b) (at-if1 .if1 .taken)))
+    rw (at-pre .pre .0, c .lost .ensures) (sym (metal-backface _ _ _ _ (at-pre .args .b) (at-if1 .if1 .taken)))
 
 returns-2 : tie.Need-returns-2
 returns-2 c =
@@ -19,7 +20,7 @@ returns-2 c =
     let at-to-local = at-normal .before .before in
     let at-if1 = at-to-local .before .before in
     let at-pre = at-if1 .before .before .before in
-    rw (at-pre .pre, c .lost2 .ensures)
+    rw (at-pre .pre .0, c .lost2 .ensures)
     (sym (metal-lost _ _ _ _ (at-pre .args .b) (at-if1 .if1 .left) _ (at-to-local .before .new .ensures) _ (at-to-local .to-local .ensures) _
     (at-normal .normal .ensures) _ (at-sample .sample-from .ensures) (c .before .match .keys2)))
 
@@ -38,7 +39,7 @@ returns-3 c =
     let at-to-local = at-normal .before .before in
     let at-if1 = at-to-local .before .before in
     let at-pre = at-if1 .before .before .before in
-    rw (at-pre .pre, at-to-world .to-world .ensures, at-density-of .density-of .ensures, c .weighed .ensures, at-weights .weights .ensures, at-metal-filter .metal-filter .ensures, at-f .f .ensures, at-seen .seen-on-metal .ensures .0, at-seen .seen-on-metal .ensures .1)
+    rw (at-pre .pre .0, at-to-world .to-world .ensures, at-density-of .density-of .ensures, c .weighed .ensures, at-weights .weights .ensures, at-metal-filter .metal-filter .ensures, at-f .f-from .ensures, at-pre .pre .1, f-from, at-seen .seen-on-metal .ensures .0, at-seen .seen-on-metal .ensures .1)
     (sym (metal-sent _ _ _ _ (at-pre .args .b) (at-if1 .if1 .left) _ (at-to-local .before .new .ensures) _ (at-to-local .to-local .ensures) _
     (at-normal .normal .ensures) _ (at-sample .sample-from .ensures) _ _ (at-wi .wi .given .1)))
 

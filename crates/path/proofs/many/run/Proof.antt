@@ -15,13 +15,13 @@ use Rattle.path.proofs.many.run.Statement.{statement}
 use Rattle.path.proofs.many.run.Tie as tie
 
 abbrev Inv-loop : tie.InvT-loop
-Inv-loop check constant surface eta k input output₀ n i₀ output i =
+Inv-loop check constant spacing surface eta k input output₀ n i₀ output i =
     (i ≤ n)
     × (output ≡ allBounced (microsurface surface eta k) input i ++ drop (18 * i) output₀)
     × (length output ≡ length output₀)
 
 abbrev μ-loop : tie.MeasureT-loop
-μ-loop check constant surface eta k input output₀ n i₀ output i = n - i
+μ-loop check constant spacing surface eta k input output₀ n i₀ output i = n - i
 
 -- a turn: one more bounce is stored, and the output is as long as it was
 turn : (m : Microsurface) (input output₀ output next : List Float) (i : ℕ)
@@ -62,5 +62,5 @@ returns c =
 pub run-spec : {M : Type 1} → statement M
 unfolding allBounced
 run-spec = tie.close (tie.spec Inv-loop μ-loop (λ c. (omega arith, refl, refl))
-    (λ c κs. let p = c .before .before .before .before .before .before .before in (omega arith, omega arith, p .pre .2, p .pre .3))
+    (λ c κs. let p = c .before .before .before .before .before .before .before in (omega arith, omega arith, p .pre .2, p .pre .3, p .pre .4))
     (λ c. omega arith) (λ c. omega arith) loop-again (λ c. c .before .loop .inv .2) returns)

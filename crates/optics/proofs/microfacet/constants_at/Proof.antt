@@ -1,0 +1,14 @@
+-- `optics::microfacet::constants_at` meets its contract: a read from the grid point is the lookup (`sample-from-point`).
+use borrow.Author.Needs.{needs}
+use Rattle.numbers.proofs.dense_spectrum.SampleFrom.{sample-from-point}
+use Rattle.optics.proofs.microfacet.constants_at.Statement.{statement}
+use Rattle.optics.proofs.microfacet.constants_at.Tie as tie
+
+returns : tie.Need-returns
+returns c = (
+  rw (c .before .sample-from .ensures, c .before .before .new .ensures) (sample-from-point _ _ _),
+  rw (c .sample-from2 .ensures, c .before .before .new .ensures) (sample-from-point _ _ _),
+)
+
+pub constants-at-spec : {M : Type 1} → statement M
+constants-at-spec = tie.close (tie.spec (λ c κs. search needs) (λ c κs. search needs) (λ c κs. search needs) returns)
