@@ -627,9 +627,9 @@ refusing! {
         };
 }
 
-/// The fields with tables, of any values, in the place of what isn't one.
+/// The fields with tables of one spacing, of any values: another in the place of what isn't one.
 fn taken<'a, const N: usize>(f: &Fields<'a>) -> Fields<'a> {
-    let or = |v: &'a [f64], w: &'a [f64]| if is_length(v.len()) { v } else { w };
+    let or = |v: &'a [f64], w: &'a [f64]| if v.len() == N { v } else { w };
     let [eta, k] = accepted_spectra(N);
     Fields { eta: or(f.eta, eta), k: or(f.k, k), ..*f }
 }
