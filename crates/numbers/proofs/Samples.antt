@@ -53,12 +53,16 @@ samples = record {
 }
 
 pub fine-samples : FineSamples
-unfolding sampleOneAt upperPoint upperLambda upperWeight ceiling interpolate decimal add sub mul div lt eq ofInt toUnsigned
+unfolding sampleOneAt upperPoint upperLambda upperWeight ceiling interpolate isLookupWavelength isWavelength within decimal add sub mul div lt le eq ofInt toUnsigned
 fine-samples = record {
   at-360 = λ (rest : List Float) e. fine (f1 ∷ f2 ∷ rest) (decimal 360 1) e;
   at-360-and-a-half = λ (rest : List Float) e. fine (f1 ∷ f2 ∷ rest) (decimal 3605 10) e;
   at-361 = λ (rest : List Float) e. fine (f1 ∷ f2 ∷ rest) (decimal 361 1) e;
   at-830 = λ (values : List Float) e. fine values (decimal 830 1) e;
+  lookup-360 = λ (rest : List Float) e h. inside (f1 ∷ f2 ∷ rest) (decimal 360 1) f1 h refl (fine (f1 ∷ f2 ∷ rest) (decimal 360 1) e);
+  lookup-360-and-a-half = λ (rest : List Float) e h. inside (f1 ∷ f2 ∷ rest) (decimal 3605 10) (decimal 15 10) h refl (fine (f1 ∷ f2 ∷ rest) (decimal 3605 10) e);
+  lookup-361 = λ (rest : List Float) e h. inside (f1 ∷ f2 ∷ rest) (decimal 361 1) f2 h refl (fine (f1 ∷ f2 ∷ rest) (decimal 361 1) e);
+  lookup-830 = λ (values : List Float) e h. inside values (decimal 830 1) (entry values 470) h refl (fine values (decimal 830 1) e);
 }
 
 -- ---- roots by their bit patterns: of 2, of the largest value, and of 2 in binary32

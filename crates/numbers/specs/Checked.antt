@@ -31,7 +31,7 @@ onbAnswer (OnbAnswer.Given uvw) = given uvw
 unfoldable pub checkDirection : Vec3 → Verdict
 checkDirection w = refuse 5 (isDirection w)
 
--- a spectrum's values: 2 for a length other than the table's, or an entry that isn't finite
+-- a spectrum's values: 2 for a length other than 95 or 471, or an entry that isn't finite
 unfoldable pub tableHolds : List Float → Bool
 tableHolds values = isTable values && allFinite values
 

@@ -29,7 +29,7 @@ fineSamples = 471
 abbrev pub fineStep : Float
 fineStep = f1
 
--- how far apart a table's entries are: their number tells
+-- how far apart a table's entries are, which their number tells; a list that is no table is read as if 5 apart
 unfoldable pub stepOf : List Float → Float
 stepOf values = cond (eqb (length values) fineSamples) fineStep denseStep
 

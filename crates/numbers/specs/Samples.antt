@@ -52,3 +52,8 @@ pub record FineSamples : Type 0 where
   pub at-360-and-a-half : (rest : List Float) → Fine (f1 ∷ f2 ∷ rest) → sampleOne (f1 ∷ f2 ∷ rest) (decimal 3605 10) ≡ decimal 15 10
   pub at-361 : (rest : List Float) → Fine (f1 ∷ f2 ∷ rest) → sampleOne (f1 ∷ f2 ∷ rest) (decimal 361 1) ≡ f2
   pub at-830 : (values : List Float) → Fine values → sampleOne values (decimal 830 1) ≡ entry values 470
+  -- and of a lookup with its checks
+  pub lookup-360 : (rest : List Float) → Fine (f1 ∷ f2 ∷ rest) → Entries (f1 ∷ f2 ∷ rest) → lookup (f1 ∷ f2 ∷ rest) (decimal 360 1) ≡ given f1
+  pub lookup-360-and-a-half : (rest : List Float) → Fine (f1 ∷ f2 ∷ rest) → Entries (f1 ∷ f2 ∷ rest) → lookup (f1 ∷ f2 ∷ rest) (decimal 3605 10) ≡ given (decimal 15 10)
+  pub lookup-361 : (rest : List Float) → Fine (f1 ∷ f2 ∷ rest) → Entries (f1 ∷ f2 ∷ rest) → lookup (f1 ∷ f2 ∷ rest) (decimal 361 1) ≡ given f2
+  pub lookup-830 : (values : List Float) → Fine values → Entries values → lookup values (decimal 830 1) ≡ given (entry values 470)

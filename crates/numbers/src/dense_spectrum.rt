@@ -33,7 +33,7 @@ impl DenseSpectrum {
 
     pub const FINE_STEP: f64 = 1.0;
 
-    // How far apart the entries are: their number tells.
+    // How far apart the entries are, which their number tells.
     pub fn step(values: &[f64]) -> f64
         ensures { λ r. ⌜ r ≡ stepOf (now (values .entry)) ⌝ }
     {
@@ -49,7 +49,7 @@ impl DenseSpectrum {
     {
         let first = entry(values, 0);
         let n = values.len();
-        // Of a spectrum that varies the last entry mostly tells.
+        // Where the last entry differs from the first, as it mostly does in a spectrum that varies, no pass is needed.
         if 0 < n {
             if first != values[n - 1] {
                 return false;

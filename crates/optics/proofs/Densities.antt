@@ -172,5 +172,5 @@ density-not-below m wo wi reflection lambda fits-eta fits-k fits-lambda eta-hold
     on-glass : m .kind ≡ Glass → Index eta × T (eq k f0)
     on-glass e = (
       eta-index (m .eta) lambda fits-eta eta-holds fits-lambda w,
-      glass-k-zero (m .eta) (m .k) lambda fits-k eta-holds (subst (λ (kind : Kind). T (kHolds kind (m .eta) (m .k))) e k-holds) fits-lambda w,
+      glass-k-zero (m .eta) (m .k) lambda fits-k (subst (λ (kind : Kind). T (kHolds kind (m .eta) (m .k))) e k-holds) fits-lambda w,
     )

@@ -11,9 +11,9 @@ use Rattle.numbers.specs.Vec3.{negate, dot}
 use Rattle.numbers.specs.declared.vec2.Vec2.{Vec2}
 use Rattle.numbers.specs.declared.vec3.Vec3.{Vec3}
 use Rattle.optics.specs.Facets.{isDelta, lambda, chiPass, masked, g1, g, gOverG1, sampleNormalPdf}
-use Rattle.numbers.specs.DenseSpectrum.{stepOf, sampleOneAt, sampleOne}
+use Rattle.numbers.specs.DenseSpectrum.{stepOf}
 use Rattle.optics.specs.Color.{Color}
-use Rattle.optics.specs.Surface.{etaAt, kAt}
+use Rattle.optics.specs.Surface.{etaFrom, kFrom, etaAt, kAt}
 use Rattle.optics.specs.Fresnel.{indexFrom, sin2I, cosI, frFacing, frReal, fresnel, fAt, f}
 use Rattle.optics.specs.Bxdf.{refractFacing, refract, Scattered, isSmooth, dielectricFrom}
 use Rattle.optics.specs.Density.{conductorHalf, conductorPdfFrom, conductorPdf, etaRatio, dielectricHalf, reflectedPdf, passedPdf, dielectricPdfFrom, dielectricPdf}
@@ -123,13 +123,13 @@ glass-density a l eta k reflection wo wi λwo e ratio er wh h = rw (e, ← er, �
 
 -- ---- the step of the spectra
 pub f-from : (eta k : List Float) (wo wh : Vec3) (lambda : Color) → fFrom (stepOf eta) eta k wo wh lambda ≡ f eta k wo wh lambda
-unfolding fFrom f etaAt kAt sampleOne
+unfolding fFrom f etaAt kAt
 f-from eta k wo wh lambda = refl
 
-pub eta-from : (step : Float) (eta : List Float) (wl : Float) → step ≡ stepOf eta → (n : Float) → n ≡ sampleOneAt step eta wl → n ≡ etaAt eta wl
-unfolding etaAt sampleOne
-eta-from step eta wl s n e = e ∙ ap (λ (x : Float). sampleOneAt x eta wl) s
+pub eta-from : (step : Float) (eta : List Float) (wl : Float) → step ≡ stepOf eta → (n : Float) → n ≡ etaFrom step eta wl → n ≡ etaAt eta wl
+unfolding etaAt
+eta-from step eta wl s n e = e ∙ ap (λ (x : Float). etaFrom x eta wl) s
 
-pub k-from : (step : Float) (eta k : List Float) (wl : Float) → step ≡ stepOf eta → (x : Float) → x ≡ sampleOneAt step k wl → x ≡ kAt eta k wl
+pub k-from : (step : Float) (eta k : List Float) (wl : Float) → step ≡ stepOf eta → (x : Float) → x ≡ kFrom step k wl → x ≡ kAt eta k wl
 unfolding kAt
-k-from step eta k wl s x e = e ∙ ap (λ (y : Float). sampleOneAt y k wl) s
+k-from step eta k wl s x e = e ∙ ap (λ (y : Float). kFrom y k wl) s

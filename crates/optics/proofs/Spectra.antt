@@ -3,7 +3,7 @@
 -- first by the lookup's laws of the crate `numbers`; the second since a sum of products with zeros, of either sign, is a zero.
 use mathlib.Core.Path.{_≡_, refl, sym, ap, _∙_, subst}
 use mathlib.Core.Logic.{inl, inr}
-use mathlib.Core.Bool.{Bool·beq, Bool, true, false, _||_, cond}
+use mathlib.Core.Bool.{Bool·beq, Bool, true, false, _&&_, _||_, cond}
 use mathlib.Core.List.{List}
 use Prim.Native.Nat.{ℕ, zero, suc, _-_, _*_, _≤_, _<_, zero-le}
 use native.Mathlib.Nat.{le-trans, le-of-eq, lt-of-le-of-lt, not-le-of-lt, mul-pos, zero-lt-suc}
@@ -19,11 +19,11 @@ use Rattle.numbers.proofs.dense_spectrum.Interpolation.{Read, Index, read-index
 use Rattle.floats.proofs.Rounding.Shares.{shares}
 use Rattle.floats.specs.Float.{_⊕_, _⊖_, _⊗_, f0, f1, decimal, within}
 use Rattle.numbers.specs.DenseSpectrum.{stepOf, isTable, oneSpacing, terminated, entry, interpolate, upperPoint, upperLambda, upperWeight, sampleOneAt, sampleOne, allWithin, isWavelength}
-use Rattle.optics.specs.Surface.{etaMin, etaMax, etaHolds, allZero, kEntriesHold, kHolds, etaAt, kAt}
+use Rattle.optics.specs.Surface.{etaMin, etaMax, etaHolds, allZero, kEntriesHold, kHolds, etaFrom, kFrom, etaAt, kAt}
 use Rattle.optics.specs.declared.microfacet.{Kind.Kind, Kind.the-variants.Glass}
 use Rattle.floats.proofs.Rounding.Sizes.{f0-upto, f0-parts, fine-N}
 use Rattle.numbers.proofs.dense_spectrum.Every.{entry-every}
-use Rattle.numbers.proofs.dense_spectrum.Spacing.{shared-step, shared-table}
+use Rattle.numbers.proofs.dense_spectrum.Spacing.{shared-step}
 
 abbrev B : Format
 B = binary64
@@ -35,7 +35,7 @@ max-is = refl
 
 pub eta-read : (eta : List Float) (lambda : Float) → AllFit eta → T (etaHolds eta) → T (fits B lambda) → T (isWavelength lambda)
     → Read (etaAt eta lambda)
-unfolding etaHolds etaMin etaAt
+unfolding etaHolds etaMin etaAt etaFrom sampleOne
 eta-read eta lambda all holds f w =
     let table = and-l (isTable eta) (allWithin (decimal 1 100) etaMax eta) holds in
     let limits = and-r (isTable eta) (allWithin (decimal 1 100) etaMax eta) holds in
@@ -135,16 +135,15 @@ zero-sample k w all table z f h = ended (eq w terminated)
 
 -- on a surface that is accepted k is read at its own spacing, as any spectrum is
 pub k-own : (kind : Kind) (eta k : List Float) (lambda : Float) → T (kHolds kind eta k) → kAt eta k lambda ≡ sampleOne k lambda
-unfolding kHolds kAt sampleOne
+unfolding kHolds kAt kFrom sampleOne
 k-own kind eta k lambda holds =
-    ap (λ (step : Float). sampleOneAt step k lambda) (shared-step eta k (and-l (oneSpacing eta k) (kEntriesHold kind k) holds))
+    ap (λ (step : Float). sampleOneAt step k lambda) (shared-step eta k (and-r (isTable k) (oneSpacing eta k) (and-l (isTable k && oneSpacing eta k) (kEntriesHold kind k) holds)))
 
 -- on glass k is all zero
-pub glass-k-zero : (eta k : List Float) (lambda : Float) → AllFit k → T (etaHolds eta) → T (kHolds Glass eta k) → T (fits B lambda) → T (isWavelength lambda)
+pub glass-k-zero : (eta k : List Float) (lambda : Float) → AllFit k → T (kHolds Glass eta k) → T (fits B lambda) → T (isWavelength lambda)
     → T (eq (kAt eta k lambda) f0)
-unfolding etaHolds kHolds kEntriesHold
-glass-k-zero eta k lambda all eta-holds k-holds f w =
-    let spacing = and-l (oneSpacing eta k) (allZero k) k-holds in
-    let zeros = and-r (oneSpacing eta k) (allZero k) k-holds in
-    let table = shared-table eta k spacing (and-l (isTable eta) (allWithin etaMin etaMax eta) eta-holds) in
-    rw (k-own Glass eta k lambda k-holds) (zero-eq (sampleOne k lambda) (zero-sample k lambda all table zeros f w))
+unfolding kHolds kEntriesHold
+glass-k-zero eta k lambda all holds f w =
+    let table = and-l (isTable k) (oneSpacing eta k) (and-l (isTable k && oneSpacing eta k) (allZero k) holds) in
+    let zeros = and-r (isTable k && oneSpacing eta k) (allZero k) holds in
+    rw (k-own Glass eta k lambda holds) (zero-eq (sampleOne k lambda) (zero-sample k lambda all table zeros f w))

@@ -1,4 +1,4 @@
--- The forms in which a term that is needed twice is computed once and handed on: the sine of the polar angle, wo · wh, Λ(wo), and Snell's law. Definitions only.
+-- The forms in which a term that is needed twice is computed once and handed on: the sine of the polar angle, wo · wh, Λ(wo), Snell's law, and the step of the spectra. Definitions only.
 -- From the term itself each is its formula of Facets.antt, Fresnel.antt, Bxdf.antt or Density.antt, by the laws of proofs/SharedTerms.antt.
 use mathlib.Core.Bool.{Bool, true, false, cond}
 use mathlib.Core.List.{List}
@@ -8,8 +8,8 @@ use Rattle.numbers.specs.SphericalUtils.{cosTheta}
 use Rattle.numbers.specs.Vec3.{negate}
 use Rattle.numbers.specs.declared.{vec2.Vec2.Vec2, vec3.Vec3.Vec3}
 use Rattle.optics.specs.Facets.{lambda, masked, d}
-use Rattle.numbers.specs.DenseSpectrum.{sampleOneAt}
 use Rattle.optics.specs.Color.{Color, each}
+use Rattle.optics.specs.Surface.{etaFrom, kFrom}
 use Rattle.optics.specs.Fresnel.{fAt, indexFrom, sin2I, isTotal, cosI, unpolarized, frComplex}
 use Rattle.optics.specs.Bxdf.{Outgoing, total, reflect, bent, acrossOnly, Scattered, branch, reflects}
 pub use Rattle.optics.specs.declared.microfacet.Snell.{Snell}
@@ -61,4 +61,4 @@ dielectricFromSnell s cosO F u wo wh =
 
 -- ---- Fresnel's terms at four wavelengths with eta's step at hand
 unfoldable pub fFrom : Float → List Float → List Float → Vec3 → Vec3 → Color → Color
-fFrom step eta k wo wh lambda = each (λ wl. fAt wo wh (sampleOneAt step eta wl) (sampleOneAt step k wl)) lambda
+fFrom step eta k wo wh lambda = each (λ wl. fAt wo wh (etaFrom step eta wl) (kFrom step k wl)) lambda

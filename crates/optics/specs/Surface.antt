@@ -5,7 +5,7 @@ use lib.Ieee.{Float, fin}
 use lib.IntN.{pos}
 use lib.Dec.{eqb, leb}
 use Rattle.floats.specs.Float.{f0, f1, decimal, max, within}
-use Rattle.numbers.specs.DenseSpectrum.{stepOf, isTable, oneSpacing, sampleOneAt, sampleOne, isConstant, allWithin}
+use Rattle.numbers.specs.DenseSpectrum.{stepOf, isTable, oneSpacing, sampleOneAt, isConstant, allWithin}
 use Rattle.numbers.specs.Vec2.{splat}
 use Rattle.numbers.specs.declared.vec2.Vec2.{Vec2}
 pub use Rattle.optics.specs.declared.microfacet.{Kind.Kind, Kind.the-variants.Metal, Kind.the-variants.Glass, Surface.Surface}
@@ -73,15 +73,22 @@ kEntriesHold Glass k = allZero k
 
 -- eta and k share one spacing (02 (i))
 unfoldable pub kHolds : Kind → List Float → List Float → Bool
-kHolds kind eta k = oneSpacing eta k && kEntriesHold kind k
+kHolds kind eta k = isTable k && oneSpacing eta k && kEntriesHold kind k
 
 -- ---- the spectra at a wavelength: the one place where eta is read, and where it counts as constant
-unfoldable pub etaAt : List Float → Float → Float
-etaAt eta lambda = sampleOne eta lambda
+-- from the step that a surface's spectra share
+unfoldable pub etaFrom : Float → List Float → Float → Float
+etaFrom step eta lambda = sampleOneAt step eta lambda
 
--- k at eta's spacing, which is its own on every surface that is accepted (`k-own`, proofs/Spectra.antt)
+unfoldable pub kFrom : Float → List Float → Float → Float
+kFrom step k lambda = sampleOneAt step k lambda
+
+-- which eta tells; on every surface that is accepted it is k's own too (`k-own`, proofs/Spectra.antt)
+unfoldable pub etaAt : List Float → Float → Float
+etaAt eta lambda = etaFrom (stepOf eta) eta lambda
+
 unfoldable pub kAt : List Float → List Float → Float → Float
-kAt eta k lambda = sampleOneAt (stepOf eta) k lambda
+kAt eta k lambda = kFrom (stepOf eta) k lambda
 
 unfoldable pub constantEta : List Float → Bool
 constantEta eta = isConstant eta

@@ -69,11 +69,14 @@ fn k_entries_hold(kind: Kind, k: &[f64]) -> bool
     }
 }
 
-// As many entries as eta has, and within their limits.
+// A table of as many entries as eta has, all within their limits. Of what is no table no entry is read.
 fn k_holds(kind: Kind, eta: &[f64], k: &[f64]) -> bool
     ensures { λ r. ⌜ r ≡ kHolds kind (now (eta .entry)) (now (k .entry)) ⌝ }
 {
-    dense_spectrum::one_spacing(eta, k) && k_entries_hold(kind, k)
+    if dense_spectrum::is_table(k) {
+        return dense_spectrum::one_spacing(eta, k) && k_entries_hold(kind, k);
+    }
+    false
 }
 
 // What a surface holds beside its roughness.

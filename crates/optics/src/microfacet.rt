@@ -13,11 +13,10 @@ use numbers::vec3::Vec3;
 ghost use mathlib.Core.Path.{_≡_};
 ghost use mathlib.Core.Bool.{cond};
 ghost use Rattle.floats.specs.Float.{f0};
-ghost use Rattle.numbers.specs.DenseSpectrum.{sampleOneAt};
 ghost use Rattle.optics.specs.Facets.{isDelta, lambda, chiPass, g1, g, gOverG1, d, sampleNormalPdf, fSchlick, disneyDiffuse};
 ghost use Rattle.optics.specs.SharedTerms.{azimuth, chiPassAt, g1At, gOverG1At, sampleNormalPdfAt, snell, frRealFrom, fresnelFrom, fFrom};
 ghost use Rattle.optics.specs.Fresnel.{indexFrom, frReal, complexCosI, rPar, rPer, frComplexFacing, frComplex, fresnel, fAt, f};
-ghost use Rattle.optics.specs.Surface.{kindCode, isKindCode, kindOf, etaAt, kAt, constantEta};
+ghost use Rattle.optics.specs.Surface.{kindCode, isKindCode, kindOf, etaFrom, kFrom, etaAt, kAt, constantEta};
 ghost use Rattle.optics.specs.Sampler.{viewed, tangent, onHemisphere, combined, unstretched, sampleNormal};
 
 pub const PI: f64 = 3.141592653589793;
@@ -90,21 +89,23 @@ pub fn k_at(eta: &[f64], k: &[f64], wl: f64) -> f64
     DenseSpectrum::sample_from(k, GridPoint::new(DenseSpectrum::step(eta), wl))
 }
 
-// The refraction index and the absorption coefficient at one wavelength.
+// The refraction index and the absorption coefficient.
 pub struct OpticalConstants {
     pub eta: f64,
     pub k: f64,
 }
 
+// Both at one wavelength.
 pub fn optical_constants(eta: &[f64], k: &[f64], wl: f64) -> OpticalConstants
     ensures { λ r. ⌜ (r .eta ≡ etaAt (now (eta .entry)) wl) × (r .k ≡ kAt (now (eta .entry)) (now (k .entry)) wl) ⌝ }
 {
     constants_at(DenseSpectrum::step(eta), eta, k, wl)
 }
 
-// Both, from the wavelength's one place among the grid points, which are `step` apart.
+// The same with `step` at hand, from the wavelength's one place among the grid points; `optical_constants` has
+// eta's.
 pub fn constants_at(step: f64, eta: &[f64], k: &[f64], wl: f64) -> OpticalConstants
-    ensures { λ r. ⌜ (r .eta ≡ sampleOneAt step (now (eta .entry)) wl) × (r .k ≡ sampleOneAt step (now (k .entry)) wl) ⌝ }
+    ensures { λ r. ⌜ (r .eta ≡ etaFrom step (now (eta .entry)) wl) × (r .k ≡ kFrom step (now (k .entry)) wl) ⌝ }
 {
     let point = GridPoint::new(step, wl);
     OpticalConstants {
@@ -384,7 +385,7 @@ pub fn f(eta: &[f64], k: &[f64], wo: Vec3, wh: Vec3, lambda: Color) -> Color
     f_from(DenseSpectrum::step(eta), eta, k, wo, wh, lambda)
 }
 
-// `f` with `step`, which is eta's, at hand.
+// The same with `step` at hand; `f` has eta's.
 pub fn f_from(step: f64, eta: &[f64], k: &[f64], wo: Vec3, wh: Vec3, lambda: Color) -> Color
     ensures { λ r. ⌜ r ≡ fFrom step (now (eta .entry)) (now (k .entry)) wo wh lambda ⌝ }
 {
@@ -398,7 +399,7 @@ pub fn f_from(step: f64, eta: &[f64], k: &[f64], wo: Vec3, wh: Vec3, lambda: Col
 }
 
 fn fresnel_at(step: f64, eta: &[f64], k: &[f64], cos_o: f64, wl: f64) -> f64
-    ensures { λ r. ⌜ r ≡ fresnel «cos_o» (sampleOneAt step (now (eta .entry)) wl) (sampleOneAt step (now (k .entry)) wl) ⌝ }
+    ensures { λ r. ⌜ r ≡ fresnel «cos_o» (etaFrom step (now (eta .entry)) wl) (kFrom step (now (k .entry)) wl) ⌝ }
 {
     let at = constants_at(step, eta, k, wl);
     fresnel(cos_o, at.eta, at.k)

@@ -119,7 +119,7 @@ module _ (p : Path) (m : Microsurface) (b : Bounce) (h : Given p m b) where
 
   no-k : m .kind ≡ Glass → T (eq (kAt (m .eta) (m .k) (leading (lambdaOn m (p .lambda)))) f0)
   no-k g =
-      glass-k-zero (m .eta) (m .k) (leading (lambdaOn m (p .lambda))) (all-fit (m .k) (h .step .k)) (h .ok .eta)
+      glass-k-zero (m .eta) (m .k) (leading (lambdaOn m (p .lambda))) (all-fit (m .k) (h .step .k))
       (subst (λ (kind : Kind). T (kHolds kind (m .eta) (m .k))) g (h .ok .k)) leading-fits leading-in
 
   below-one : T (lt (b .u) f1)

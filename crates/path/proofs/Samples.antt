@@ -19,7 +19,7 @@ use Rattle.numbers.specs.DenseSpectrum.{stepOf, ceiling, upperPoint, upperLambd
 use Rattle.numbers.specs.declared.vec2.Vec2.{Vec2}
 use Rattle.numbers.specs.declared.vec3.Vec3.{Vec3}
 use Rattle.numbers.proofs.Samples as Numbers
-use Rattle.optics.specs.Surface.{Microsurface, roughnessMin, isRoughness, roughnessHolds, etaMin, etaMax, etaHolds, kMin, kMax, allZero, kEntriesHold, kHolds, etaAt, kAt, constantEta, surface}
+use Rattle.optics.specs.Surface.{Microsurface, roughnessMin, isRoughness, roughnessHolds, etaMin, etaMax, etaHolds, kMin, kMax, allZero, kEntriesHold, kHolds, etaFrom, kFrom, etaAt, kAt, constantEta, surface}
 use Rattle.optics.specs.Facets.{half, isDelta}
 use Rattle.optics.specs.Fresnel.{sin2I, isTotal, cosI, fresnel, fAt}
 use Rattle.optics.specs.Bxdf.{scattered, direction, mirrored, reflect, bent, acrossOnly, refractFacing, refract, branch, conductorNormal, conductorFrom, isSmooth, dielectricNormal, rest, reflects, dielectricFrom}
@@ -63,11 +63,11 @@ record Reads (at : Float → Float) (x : Float) : Type 0 where
   r3 : at l3 ≡ x
 
 reads-eta : (x : Float) → Reads (etaAt (constant x)) x
-unfolding etaAt stepOf sampleOne sampleOneAt upperPoint upperLambda upperWeight ceiling interpolate add sub mul div lt eq ofInt toUnsigned
+unfolding etaAt etaFrom stepOf sampleOneAt upperPoint upperLambda upperWeight ceiling interpolate add sub mul div lt eq ofInt toUnsigned
 reads-eta x = record { r0 = refl; r1 = refl; r2 = refl; r3 = refl }
 
 reads-k : (x y : Float) → Reads (kAt (constant x) (constant y)) y
-unfolding kAt stepOf sampleOneAt upperPoint upperLambda upperWeight ceiling interpolate add sub mul div lt eq ofInt toUnsigned
+unfolding kAt kFrom stepOf sampleOneAt upperPoint upperLambda upperWeight ceiling interpolate add sub mul div lt eq ofInt toUnsigned
 reads-k x y = record { r0 = refl; r1 = refl; r2 = refl; r3 = refl }
 
 -- ---- the checks
@@ -102,11 +102,11 @@ eta-holds x h = rw (length-holds x, every-replicate (within etaMin etaMax) x h 9
 
 metal-k-holds : (x : Float) → kHolds Metal (constant x) (constant f2) ≡ true
 unfolding kHolds kEntriesHold allWithin within kMin decimal le
-metal-k-holds x = rw (spacing-holds x f2, every-replicate (within kMin kMax) f2 refl 95, or-true)
+metal-k-holds x = rw (length-holds f2, spacing-holds x f2, every-replicate (within kMin kMax) f2 refl 95, or-true)
 
 glass-k-holds : (x : Float) → kHolds Glass (constant x) (constant f0) ≡ true
 unfolding kHolds kEntriesHold allZero allWithin within le
-glass-k-holds x = rw (spacing-holds x f0, every-replicate (within f0 f0) f0 refl 95)
+glass-k-holds x = rw (length-holds f0, spacing-holds x f0, every-replicate (within f0 f0) f0 refl 95)
 
 surface-holds :
     (m : Microsurface) → roughnessHolds (m .roughness) ≡ true → etaHolds (m .eta) ≡ true → kHolds (m .kind) (m .eta) (m .k) ≡ true →

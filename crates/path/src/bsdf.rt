@@ -47,7 +47,7 @@ pub fn bounce(path: Path, surface: Surface, eta: &[f64], k: &[f64], b: Bounce) -
 {
     let check = check_surface(surface, eta, k);
     let kind = surface.kind;
-    let constant = constant_on(kind, eta);
+    let constant = constant_on(check, kind, eta);
     let step = DenseSpectrum::step(eta);
     bounce_with(check, constant, step, path, surface, eta, k, b)
 }
@@ -64,7 +64,7 @@ pub(crate) fn bounce_with(
     k: &[f64],
     b: Bounce,
 ) -> Bounced
-    requires { ⌜ (verdict check ≡ checkSurface (microsurface surface (now eta) (now k))) × (constant ≡ constantOn (surface .kind) (now eta)) × (step ≡ stepOf (now eta)) ⌝ }
+    requires { ⌜ (verdict check ≡ checkSurface (microsurface surface (now eta) (now k))) × (constant ≡ constantOn (verdict check) (surface .kind) (now eta)) × (step ≡ stepOf (now eta)) ⌝ }
     ensures { λ r. ⌜ outcome r ≡ bounce path (microsurface surface (now (eta .entry)) (now (k .entry))) b ⌝ }
 {
     if let Check::Refused(why) = check.then(check::check_rest(path, b)) {
@@ -77,10 +77,14 @@ pub(crate) fn bounce_with(
     }
 }
 
-// Whether eta is constant. Nothing asks it of metal.
-pub(crate) fn constant_on(kind: Kind, eta: &[f64]) -> bool
-    ensures { λ r. ⌜ r ≡ constantOn kind (now (eta .entry)) ⌝ }
+// Whether eta is constant, from what the surface's check gave: nothing asks it of a surface that is refused, nor
+// of metal.
+pub(crate) fn constant_on(check: Check, kind: Kind, eta: &[f64]) -> bool
+    ensures { λ r. ⌜ r ≡ constantOn (verdict check) kind (now (eta .entry)) ⌝ }
 {
+    if let Check::Refused(_) = check {
+        return false;
+    }
     match kind {
         Kind::Metal => false,
         Kind::Glass => microfacet::constant_eta(eta),

@@ -121,18 +121,18 @@ fn numbers_out(answer: Bounced) -> [f64; 18]
 fn one(
     check: Check,
     constant: bool,
-    spacing: f64,
+    step: f64,
     surface: Surface,
     eta: &[f64],
     k: &[f64],
     numbers: &[f64],
 ) -> [f64; 18]
-    requires { ⌜ (length (now numbers) ≡ 27) × (verdict check ≡ checkSurface (microsurface surface (now eta) (now k))) × (constant ≡ constantOn (surface .kind) (now eta)) × (spacing ≡ stepOf (now eta)) ⌝ }
+    requires { ⌜ (length (now numbers) ≡ 27) × (verdict check ≡ checkSurface (microsurface surface (now eta) (now k))) × (constant ≡ constantOn (verdict check) (surface .kind) (now eta)) × (step ≡ stepOf (now eta)) ⌝ }
     ensures { λ r. ⌜ r ≡ bounced (microsurface surface (now (eta .entry)) (now (k .entry))) (now (numbers .entry)) ⌝ }
 {
     let path = path_in(numbers);
     let b = bounce_in(numbers);
-    numbers_out(bsdf::bounce_with(check, constant, spacing, path, surface, eta, k, b))
+    numbers_out(bsdf::bounce_with(check, constant, step, path, surface, eta, k, b))
 }
 
 // Stores 18 numbers from `at` on.
@@ -148,10 +148,10 @@ fn put(output: &mut [f64], at: usize, numbers: &[f64; 18])
 }
 
 // The bounce at `i` of the input, to its place in the output.
-fn step(
+fn put_one(
     check: Check,
     constant: bool,
-    spacing: f64,
+    step: f64,
     surface: Surface,
     eta: &[f64],
     k: &[f64],
@@ -159,12 +159,12 @@ fn step(
     output: &mut [f64],
     i: usize,
 )
-    requires { ⌜ (27 * i + 27 ≤ length (now input)) × (18 * i + 18 ≤ length (now output)) × (verdict check ≡ checkSurface (microsurface surface (now eta) (now k))) × (constant ≡ constantOn (surface .kind) (now eta)) × (spacing ≡ stepOf (now eta)) ⌝ }
+    requires { ⌜ (27 * i + 27 ≤ length (now input)) × (18 * i + 18 ≤ length (now output)) × (verdict check ≡ checkSurface (microsurface surface (now eta) (now k))) × (constant ≡ constantOn (verdict check) (surface .kind) (now eta)) × (step ≡ stepOf (now eta)) ⌝ }
     ensures { λ _. ⌜ now (output .exit) ≡ paste (now (output .entry)) (18 * i) (bouncedAt (microsurface surface (now (eta .entry)) (now (k .entry))) (now (input .entry)) i) 18 ⌝ }
 {
     let from = 27 * i;
     let end = from + 27;
-    let numbers = one(check, constant, spacing, surface, eta, k, &input[from..end]);
+    let numbers = one(check, constant, step, surface, eta, k, &input[from..end]);
     put(output, 18 * i, &numbers);
 }
 
@@ -172,7 +172,7 @@ fn step(
 fn run(
     check: Check,
     constant: bool,
-    spacing: f64,
+    step: f64,
     surface: Surface,
     eta: &[f64],
     k: &[f64],
@@ -180,12 +180,12 @@ fn run(
     output: &mut [f64],
     n: usize,
 )
-    requires { ⌜ (27 * n ≤ length (now input)) × (18 * n ≤ length (now output)) × (verdict check ≡ checkSurface (microsurface surface (now eta) (now k))) × (constant ≡ constantOn (surface .kind) (now eta)) × (spacing ≡ stepOf (now eta)) ⌝ }
+    requires { ⌜ (27 * n ≤ length (now input)) × (18 * n ≤ length (now output)) × (verdict check ≡ checkSurface (microsurface surface (now eta) (now k))) × (constant ≡ constantOn (verdict check) (surface .kind) (now eta)) × (step ≡ stepOf (now eta)) ⌝ }
     ensures { λ _. ⌜ now (output .exit) ≡ allBounced (microsurface surface (now (eta .entry)) (now (k .entry))) (now (input .entry)) n ++ drop (18 * n) (now (output .entry)) ⌝ }
 {
     let mut i = 0;
     while i < n {
-        step(check, constant, spacing, surface, eta, k, input, output, i);
+        put_one(check, constant, step, surface, eta, k, input, output, i);
         i += 1;
     }
 }
@@ -208,8 +208,8 @@ pub fn bounces(surface: Surface, eta: &[f64], k: &[f64], input: &[f64], output: 
     let n = count(input.len(), output.len());
     let check = check_surface(surface, eta, k);
     let kind = surface.kind;
-    let constant = bsdf::constant_on(kind, eta);
-    let spacing = DenseSpectrum::step(eta);
-    run(check, constant, spacing, surface, eta, k, input, output, n);
+    let constant = bsdf::constant_on(check, kind, eta);
+    let step = DenseSpectrum::step(eta);
+    run(check, constant, step, surface, eta, k, input, output, n);
     n
 }

@@ -129,8 +129,7 @@ pub fn is_made(place: &[f64]) -> bool {
     0.0 < at(place, 0)
 }
 
-// A kind and a count are kept as the numbers whose bits are the kind's code and the count, which is less
-// than the numbers of a place.
+// A kind is kept as the number whose bits are its code.
 fn kind_of(number: f64) -> Kind {
     Kind::of_code(patterns::bits(number))
 }
@@ -139,6 +138,8 @@ fn kind_number(kind: Kind) -> f64 {
     patterns::of_bits(kind.code())
 }
 
+// How many entries each spectrum has is kept as the number whose bits it is. One count serves both: a k that
+// is accepted has as many as eta.
 fn count_of(number: f64) -> u32 {
     (patterns::bits(number) % sizes::SURFACE as u64) as u32
 }

@@ -1,10 +1,12 @@
 -- `optics::microfacet::constants_at` meets its contract: a read from the grid point is the lookup (`sample-from-point`).
 use borrow.Author.Needs.{needs}
 use Rattle.numbers.proofs.dense_spectrum.SampleFrom.{sample-from-point}
+use Rattle.optics.specs.Surface.{etaFrom, kFrom}
 use Rattle.optics.proofs.microfacet.constants_at.Statement.{statement}
 use Rattle.optics.proofs.microfacet.constants_at.Tie as tie
 
 returns : tie.Need-returns
+unfolding etaFrom kFrom
 returns c = (
   rw (c .before .sample-from .ensures, c .before .before .new .ensures) (sample-from-point _ _ _),
   rw (c .sample-from2 .ensures, c .before .before .new .ensures) (sample-from-point _ _ _),

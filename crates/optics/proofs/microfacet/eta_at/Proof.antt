@@ -1,11 +1,12 @@
 -- `optics::microfacet::eta_at` meets its contract: the calls give what their contracts promise, and the definition is read in the same order.
-use Rattle.optics.specs.Surface.{etaAt}
+use Rattle.numbers.specs.DenseSpectrum.{sampleOne}
+use Rattle.optics.specs.Surface.{etaFrom, etaAt}
 use borrow.Author.Needs.{needs}
 use Rattle.optics.proofs.microfacet.eta_at.Statement.{statement}
 use Rattle.optics.proofs.microfacet.eta_at.Tie as tie
 
 returns : tie.Need-returns
-unfolding etaAt
+unfolding etaAt etaFrom sampleOne
 returns c = rw (← c .sample-one .ensures)
 
 pub eta-at-spec : {M : Type 1} → statement M

@@ -1,12 +1,11 @@
 -- `optics::microfacet::optical_constants` meets its contract: both are read at eta's step.
 use borrow.Author.Needs.{needs}
-use Rattle.numbers.specs.DenseSpectrum.{sampleOne}
 use Rattle.optics.specs.Surface.{etaAt, kAt}
 use Rattle.optics.proofs.microfacet.optical_constants.Statement.{statement}
 use Rattle.optics.proofs.microfacet.optical_constants.Tie as tie
 
 returns : tie.Need-returns
-unfolding etaAt kAt sampleOne
+unfolding etaAt kAt
 returns c = rw (← c .before .step .ensures) (c .constants-at .ensures)
 
 pub optical-constants-spec : {M : Type 1} → statement M

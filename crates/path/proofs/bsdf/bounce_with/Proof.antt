@@ -1,5 +1,5 @@
 -- `path::bsdf::bounce_with` meets its contract: what is known of the surface is what the definition asks first, and the rest is read in the same order.
-use mathlib.Core.Path.{_≡_, ap, _∙_}
+use mathlib.Core.Path.{_≡_, sym, ap, _∙_}
 use mathlib.Core.Bool.{Bool}
 use mathlib.Core.List.{List}
 use lib.Ieee.{Float}
@@ -8,21 +8,27 @@ use Rattle.optics.specs.declared.microfacet.{Kind.Kind, Kind.the-variants.Glass
 use Rattle.path.specs.Known.{constantOn}
 use Rattle.path.specs.Bounce.{checkBounce}
 use Rattle.path.specs.Answer.{bounce, answered, outcome}
-use Rattle.numbers.specs.Refusal.{verdict}
+use Rattle.numbers.specs.Refusal.{Verdict, accepted, verdict}
+use Rattle.numbers.proofs.refusal.Checks.{first-passed}
 use borrow.Author.Needs.{needs}
 use Rattle.path.proofs.bsdf.bounce_with.Statement.{statement}
 use Rattle.path.proofs.bsdf.bounce_with.Tie as tie
 
--- of glass it is known whether eta is constant
-glass-constant : (kind : Kind) (eta : List Float) (constant : Bool) → constant ≡ constantOn kind eta → kind ≡ Glass → constant ≡ constantEta eta
+-- of glass that is accepted it is known whether eta is constant
+glass-constant : (v : Verdict) (kind : Kind) (eta : List Float) (constant : Bool)
+    → constant ≡ constantOn v kind eta → v ≡ accepted → kind ≡ Glass → constant ≡ constantEta eta
 unfolding constantOn
-glass-constant kind eta constant e g = e ∙ ap (λ (k : Kind). constantOn k eta) g
+glass-constant v kind eta constant e a g = e ∙ ap (λ (w : Verdict). constantOn w kind eta) a ∙ ap (λ (k : Kind). constantOn accepted k eta) g
 
 glass-needs : tie.Need-on-glass-requires
+unfolding verdict
 glass-needs c κs =
-    let at-pre = c .before .before .before .before .before .before .before .before in
+    let at-passed = c .before .before in
+    let at-then = at-passed .before .before in
+    let at-pre = at-then .before .before .before .before in
+    let passed = first-passed _ _ (sym (at-then .then .ensures) ∙ ap verdict (at-passed .enum-told .given .1)) in
     let glass = c .enum-told3 .given .1 in
-    (glass, glass-constant _ _ _ (at-pre .pre .1) glass, at-pre .pre .2)
+    (glass, glass-constant _ _ _ _ (at-pre .pre .1) passed glass, at-pre .pre .2)
 
 pub bounce-with-spec : {M : Type 1} → statement M
 unfolding bounce answered verdict checkBounce outcome

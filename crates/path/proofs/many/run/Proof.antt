@@ -15,13 +15,13 @@ use Rattle.path.proofs.many.run.Statement.{statement}
 use Rattle.path.proofs.many.run.Tie as tie
 
 abbrev Inv-loop : tie.InvT-loop
-Inv-loop check constant spacing surface eta k input output₀ n i₀ output i =
+Inv-loop check constant step surface eta k input output₀ n i₀ output i =
     (i ≤ n)
     × (output ≡ allBounced (microsurface surface eta k) input i ++ drop (18 * i) output₀)
     × (length output ≡ length output₀)
 
 abbrev μ-loop : tie.MeasureT-loop
-μ-loop check constant spacing surface eta k input output₀ n i₀ output i = n - i
+μ-loop check constant step surface eta k input output₀ n i₀ output i = n - i
 
 -- a turn: one more bounce is stored, and the output is as long as it was
 turn : (m : Microsurface) (input output₀ output next : List Float) (i : ℕ)
@@ -44,7 +44,7 @@ loop-again c =
     let args = at-loop .before .before .before .before .before .args in
     let m = microsurface (args .surface) (now (args .eta)) (now (args .k)) in
     let inv = at-loop .loop .inv in
-    let stored = c .before .before .step .ensures in (
+    let stored = c .before .before .put-one .ensures in (
       omega arith,
       turn m (now (args .input)) (now (args .output)) (at-loop .loop .output) _ (at-loop .loop .i) (inv .1) stored,
       as-long m (now (args .input)) (at-loop .loop .output) _ (at-loop .loop .i) (omega arith) stored ∙ inv .2,

@@ -1,4 +1,4 @@
--- `path::many::step` meets its contract: the part that is lent is the bounce's 27 numbers, and what comes of them is stored.
+-- `path::many::put_one` meets its contract: the part that is lent is the bounce's 27 numbers, and what comes of them is stored.
 use Prim.Native.Nat.{ℕ, _+_, _*_, _-_}
 use mathlib.Core.Path.{_≡_, ap, _∙_}
 use mathlib.Core.List.{List}
@@ -11,8 +11,8 @@ use borrow.Author.Needs.{needs}
 use Rattle.optics.specs.Surface.{microsurface}
 use Rattle.path.specs.Many.{bounced, bouncedAt}
 use Rattle.path.proofs.ManyBounces.{length-bounced}
-use Rattle.path.proofs.many.step.Statement.{statement}
-use Rattle.path.proofs.many.step.Tie as tie
+use Rattle.path.proofs.many.put_one.Statement.{statement}
+use Rattle.path.proofs.many.put_one.Tie as tie
 
 -- as many as there are from a number up to 27 more
 span : (n : ℕ) → n + 27 - n ≡ 27
@@ -29,7 +29,7 @@ returns c =
     (c .before .before .before .before .before .one .ensures
     ∙ ap (λ (n : ℕ). bounced m (take n (drop (27 * args .i) (now (args .input))))) (span (27 * args .i)))
 
-pub step-spec : {M : Type 1} → statement M
-step-spec = tie.close (tie.spec (λ c. search needs) (λ c. search needs) (λ c. search needs) (λ c. search needs) (λ c. search needs)
+pub put-one-spec : {M : Type 1} → statement M
+put-one-spec = tie.close (tie.spec (λ c. search needs) (λ c. search needs) (λ c. search needs) (λ c. search needs) (λ c. search needs)
     (λ c. search needs) (λ c κs. search needs) (λ c. search needs)
     (λ c κs. (omega arith, ap length (c .before .before .one .ensures) ∙ length-bounced _ _)) (λ c. search needs) returns)
