@@ -82,7 +82,7 @@ enum { RULVIMBA_SAMPLES = 95, RULVIMBA_FINE_SAMPLES = 471 };
 /*
  * A surface. Its two spectra, the refraction index eta and the absorption coefficient k, are lent
  * beside it in each call, as a pointer and a length. They have one spacing: as many entries of each. No
- * spacing is kept with a surface, so other calls may lend it spectra of the other.
+ * spacing is kept with a surface, so another call may lend it tables of the other.
  * Every call that takes a surface first checks it: roughness x and y from 1e-5 to 1, else 1, and a kind
  * that is neither RULVIMBA_METAL nor RULVIMBA_GLASS is 1 too; 95 or 471 entries of eta from 0.01 to 100,
  * else 2; as many entries of k, all of them 0 or, on metal alone, all of them from 1e-6 to 100, else 3.
@@ -189,8 +189,8 @@ size_t rulvimba_bounces(rulvimba_surface surface, const double *eta, size_t eta_
 /* ---- terms. Directions are local here: z is along the shading normal ---- */
 
 /*
- * A spectrum's value at a wavelength, and 0 at wavelength 0. Refused: 2 for a length other than 95 or
- * 471 or an entry that is not finite; 4 for a wavelength that is neither 0 nor from 360 to 830.
+ * A spectrum's value at a wavelength, and 0 at wavelength 0. Refused: 2 for a length that is
+ * neither 95 nor 471, or an entry that is not finite; 4 for a wavelength that is neither 0 nor from 360 to 830.
  */
 rulvimba_float_result rulvimba_lookup(const double *values, size_t values_len, double lambda);
 

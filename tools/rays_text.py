@@ -23,7 +23,7 @@ UNITS = ("per-sr", "probability")
 GROUNDS = {
     1: "the roughness is not from 0 to 1",
     2: "eta is not one entry, 95 or 471, each from 0.01 to 100",
-    3: "k is not one entry or as many as eta has, all of them 0 or, on metal, all from 0.000001 to 100",
+    3: "k is not one entry or as many as eta counts, all of them 0 or, on metal, all from 0.000001 to 100",
     4: "a wavelength is not from 360 to 830 nm",
     5: "a direction's squared length is not within 0.000001 of 1",
     6: "u or the disk number is not from 0 to below 1",

@@ -1,4 +1,4 @@
-//! Answers that are written out from document 02 (i) and computed nowhere: the refusals of every pair of lengths about 95
+//! Answers that are written out from document 02 (i), by neither the model nor its judge: the refusals of every pair of lengths about 95
 //! and 471, their order, and the values of a known table.
 use super::harness::{bits, get};
 use super::library::thin;

@@ -15,7 +15,7 @@ use Rattle.numbers.specs.Vec3.{vec3, Z, dot, floatMul, divFloat, negate, length
 use Rattle.numbers.specs.Vec3 as V3
 use Rattle.numbers.specs.Onb.{slope, skew, basis, toLocal, toWorld}
 use Rattle.numbers.specs.SphericalUtils.{cosTheta, sameHemisphere}
-use Rattle.numbers.specs.DenseSpectrum.{stepOf, ceiling, upperPoint, upperLambda, upperWeight, interpolate, sampleOneAt, sampleOne, every, isConstant, allWithin, isWavelength, isLookupWavelength, isTable, oneSpacing}
+use Rattle.numbers.specs.DenseSpectrum.{stepOf, ceiling, upperPoint, upperLambda, upperWeight, interpolate, sampleOneAt, every, isConstant, allWithin, isWavelength, isLookupWavelength, isTable, oneSpacing}
 use Rattle.numbers.specs.declared.vec2.Vec2.{Vec2}
 use Rattle.numbers.specs.declared.vec3.Vec3.{Vec3}
 use Rattle.numbers.proofs.Samples as Numbers
