@@ -60,6 +60,7 @@ fn k_entries_hold(kind: Kind, k: &[f64]) -> bool
 {
     match kind {
         Kind::Metal => {
+            // first what metal mostly has
             if dense_spectrum::all_within(k, K_MIN, K_MAX) {
                 return true;
             }
