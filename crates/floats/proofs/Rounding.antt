@@ -10,6 +10,7 @@ pub mod Units
 pub mod NonNegative
 pub mod Shares
 pub mod Monotone
+pub mod Order
 pub mod Error
 pub mod SignedPoly
 pub mod Expression

@@ -2,9 +2,9 @@
 use Prim.Native.Nat.{ℕ}
 use mathlib.Core.Bool.{Bool, cond}
 pub use Rattle.numbers.specs.declared.refusal.{Refusal.Refusal, Check.Check}
-use Rattle.numbers.specs.declared.refusal.Refusal.the-variants.{Roughness, Eta, K, Wavelength, Direction, RandomNumber, CirclePair, Filter, NotFinite, Power}
+use Rattle.numbers.specs.declared.refusal.Refusal.the-variants.{Roughness, Eta, K, Wavelength, Direction, RandomNumber, CirclePair, Filter, NotFinite, Power, Full, Id}
 
--- 01's number of each ground of refusal
+-- 01's number of each ground of refusal, and 02's from 11 on
 unfoldable pub number : Refusal → ℕ
 number Roughness = 1
 number Eta = 2
@@ -16,6 +16,8 @@ number CirclePair = 7
 number Filter = 8
 number NotFinite = 9
 number Power = 10
+number Full = 11
+number Id = 12
 
 -- ---- a check: passed, or failed with 01's number
 pub data Verdict : Type 0 where

@@ -2,7 +2,7 @@
 ghost use mathlib.Core.Path.{_≡_};
 ghost use Rattle.numbers.specs.Refusal.{number, verdict, refuse, _then_};
 
-// What was refused. The definition `number` gives document 01's number of each.
+// What was refused. The definition `number` gives document 01's number of each, and 02's from 11 on.
 pub enum Refusal {
     Roughness,
     Eta,
@@ -14,6 +14,8 @@ pub enum Refusal {
     Filter,
     NotFinite,
     Power,
+    Full,
+    Id,
 }
 
 // Whether a check passed, and why not.
@@ -23,7 +25,7 @@ pub enum Check {
 }
 
 impl Refusal {
-    // Document 01's number.
+    // Document 01's number, or 02's.
     pub fn number(self) -> u64
         ensures { λ r. ⌜ r ≡ number self ⌝ }
     {
@@ -38,6 +40,8 @@ impl Refusal {
             Refusal::Filter => 8,
             Refusal::NotFinite => 9,
             Refusal::Power => 10,
+            Refusal::Full => 11,
+            Refusal::Id => 12,
         }
     }
 }

@@ -1,0 +1,79 @@
+-- The brightest directions, kept current (document 02, ii), as one statement over every list of calls from an empty list. Definitions only; it is proved in proofs/Current.antt.
+-- It says what the list is by who is present and what stands before what, and nothing of places or of how a candidate is put in.
+use Prim.Native.Nat.{ℕ, suc, _≤_}
+use mathlib.Core.{Path._≡_, Bool.Bool, Bool.not, Bool._&&_, Bool._||_, Bool.cond, List.List, List.[], List._∷_, List.map, List.List·Permᴰ}
+use lib.Dec.{T, eqb, ltb}
+use lib.ListN.{length}
+use Rattle.numbers.specs.Refusal.{Verdict}
+use Rattle.candidates.specs.Candidate.{Candidate, goesBefore, hasId, CandidateF64}
+use Rattle.candidates.specs.Memory.{Memory, listed, Call, arrival, departure, check, answer, unlessRefused, left}
+
+-- ---- who is present
+-- a present candidate, with the number of the call that it arrived by
+pub record Present : Type 0 where
+  pub call : ℕ
+  pub candidate : Candidate
+
+-- 02's number for a call, by who is present
+unfoldable pub settle : List Present → Call → Verdict
+settle ps call = check (map (λ p. p .candidate .id) ps) call
+
+-- all but the one that has the id
+unfoldable pub others : ℕ → List Present → List Present
+others id [] = []
+others id (p ∷ ps) = cond (hasId id (p .candidate)) (others id ps) (p ∷ others id ps)
+
+-- who is present after a call that is accepted, n being its number
+unfoldable pub accept : ℕ → Call → List Present → List Present
+accept n (arrival c) ps = record { call = n; candidate = c } ∷ ps
+accept n (departure id) ps = others id ps
+
+unfoldable pub after : ℕ → List Present → Call → List Present
+after n ps call = unlessRefused (settle ps call) ps (accept n call ps)
+
+-- ---- the order: what goes before another stands before it, and where neither does, what arrived first
+unfoldable pub before : Present → Present → Bool
+before a b =
+    goesBefore (a .candidate) (b .candidate)
+    || (not (goesBefore (b .candidate) (a .candidate)) && ltb (a .call) (b .call))
+
+unfoldable pub Every : {A : Type 0} → (A → Type 0) → List A → Type 0
+Every P [] = Unit
+Every P (x ∷ xs) = P x × Every P xs
+
+-- it holds of each and all that follow it
+unfoldable pub Pairwise : {A : Type 0} → (A → A → Type 0) → List A → Type 0
+Pairwise R [] = Unit
+Pairwise R (x ∷ xs) = Every (R x) xs × Pairwise R xs
+
+-- cs is exactly the present candidates, each a single time, in the order
+pub record Current (cs : List Candidate) (ps : List Present) : Type 0 where
+  pub order : List Present
+  pub present : List·Permᴰ order ps
+  pub sorted : Pairwise (λ a b. T (before a b)) order
+  pub listed : map (λ p. p .candidate) order ≡ cs
+  -- and so no id stands twice, and there are 64 at the most
+  pub once : Pairwise (λ a b. a .id ≡ b .id → ⊥) cs
+  pub room : length cs ≤ 64
+
+-- ---- a list of calls, by what the contracts of the two calls say that each answers and leaves in memory
+unfoldable pub CallF64 : Call → Type 0
+CallF64 (arrival c) = CandidateF64 c
+CallF64 (departure id) = Unit
+
+-- after every call of it, where n calls were made before, ps is who was present then and m what memory held
+unfoldable pub Throughout : ℕ → List Present → Memory → List Call → Type 0
+Throughout n ps m [] = Unit
+Throughout n ps m (call ∷ calls) =
+    (answer m call ≡ settle ps call)
+    × Current (listed (left m call)) (after n ps call)
+    × Throughout (suc n) (after n ps call) (left m call) calls
+
+-- memory with 64 places and a count of 0, whatever the places hold
+pub record Empty (m : Memory) : Type 0 where
+  pub count : m .count ≡ 0
+  pub ids : length (m .ids) ≡ 64
+  pub densities : length (m .densities) ≡ 64
+
+unfoldable pub KeptCurrent : Type 0
+KeptCurrent = (m : Memory) → Empty m → (calls : List Call) → Every CallF64 calls → Throughout 0 [] m calls

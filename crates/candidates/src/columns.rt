@@ -1,0 +1,59 @@
+// One column of a list in memory: an entry is put in at a place of the first n, or taken out, and the
+// places past them stay as they are.
+ghost use mathlib.Core.Path.{_≡_};
+ghost use mathlib.Core.List.{_++_};
+ghost use Prim.Native.Nat.{suc, _-_, _≤_, _<_};
+ghost use lib.ListN.{take, drop};
+ghost use Rattle.candidates.specs.Lists.{insertAt, removeAt};
+
+pub(crate) fn put_id(ids: &mut [u16; 64], n: usize, at: usize, id: u16)
+    requires { ⌜ (at ≤ n) × (n < 64) ⌝ }
+    ensures { λ _. ⌜ now (ids .exit) ≡ insertAt at id (take n (now (ids .entry))) ++ drop (suc n) (now (ids .entry)) ⌝ }
+{
+    let mut next = id;
+    let mut i = at;
+    while i <= n {
+        let e = ids[i];
+        ids[i] = next;
+        next = e;
+        i += 1;
+    }
+}
+
+pub(crate) fn put_number(xs: &mut [f64; 64], n: usize, at: usize, x: f64)
+    requires { ⌜ (at ≤ n) × (n < 64) ⌝ }
+    ensures { λ _. ⌜ now (xs .exit) ≡ insertAt at x (take n (now (xs .entry))) ++ drop (suc n) (now (xs .entry)) ⌝ }
+{
+    let mut next = x;
+    let mut i = at;
+    while i <= n {
+        let e = xs[i];
+        xs[i] = next;
+        next = e;
+        i += 1;
+    }
+}
+
+pub(crate) fn take_id(ids: &mut [u16; 64], n: usize, at: usize)
+    requires { ⌜ (at < n) × (n ≤ 64) ⌝ }
+    ensures { λ _. ⌜ now (ids .exit) ≡ removeAt at (take n (now (ids .entry))) ++ drop (n - 1) (now (ids .entry)) ⌝ }
+{
+    let last = n - 1;
+    let mut i = at;
+    while i < last {
+        ids[i] = ids[i + 1];
+        i += 1;
+    }
+}
+
+pub(crate) fn take_number(xs: &mut [f64; 64], n: usize, at: usize)
+    requires { ⌜ (at < n) × (n ≤ 64) ⌝ }
+    ensures { λ _. ⌜ now (xs .exit) ≡ removeAt at (take n (now (xs .entry))) ++ drop (n - 1) (now (xs .entry)) ⌝ }
+{
+    let last = n - 1;
+    let mut i = at;
+    while i < last {
+        xs[i] = xs[i + 1];
+        i += 1;
+    }
+}

@@ -1,0 +1,115 @@
+// The present candidates, greatest density first (document 02, ii): a count, and 64 places for their ids
+// and as many for their densities, lent by the caller. Refused, a call leaves them as they were.
+use crate::candidate::Candidate;
+use crate::columns;
+use numbers::refusal::refuse;
+use numbers::refusal::Check;
+use numbers::refusal::Refusal;
+ghost use mathlib.Core.Path.{_≡_};
+ghost use mathlib.Core.Bool.{cond};
+ghost use Prim.Native.Nat.{_≤_};
+ghost use lib.Dec.{ltb};
+ghost use lib.ListN.{take};
+ghost use Rattle.numbers.specs.Refusal.{verdict};
+ghost use Rattle.candidates.specs.Lists.{firstWhere};
+ghost use Rattle.candidates.specs.Candidate.{goesBefore};
+ghost use Rattle.candidates.specs.Memory as Memory;
+ghost use Rattle.candidates.specs.Memory.{memory, rows, isId, Called, arrival, departure};
+
+// How many candidates a list has room for.
+const ROOM: usize = 64;
+
+// How many places are looked at.
+fn listed(count: usize) -> usize
+    ensures { λ r. ⌜ r ≡ cond (ltb count 64) count 64 ⌝ }
+{
+    if count < ROOM {
+        return count;
+    }
+    ROOM
+}
+
+// The place of an id among the first n, or n.
+fn find(ids: &[u16; 64], n: usize, id: u16) -> usize
+    requires { ⌜ n ≤ 64 ⌝ }
+    ensures { λ r. ⌜ r ≡ firstWhere (isId id) (take n (now (ids .entry))) ⌝ }
+{
+    let mut i = 0;
+    while i < n {
+        if ids[i] == id {
+            return i;
+        }
+        i += 1;
+    }
+    n
+}
+
+// The place of an arrival among the first n: before the first that it goes before.
+fn place(ids: &[u16; 64], densities: &[f64; 64], n: usize, c: Candidate) -> usize
+    requires { ⌜ n ≤ 64 ⌝ }
+    ensures { λ r. ⌜ r ≡ firstWhere (goesBefore c) (take n (rows (now (ids .entry)) (now (densities .entry)))) ⌝ }
+{
+    let mut i = 0;
+    while i < n {
+        let e = Candidate {
+            id: ids[i],
+            density: densities[i],
+        };
+        if c.goes_before(e) {
+            return i;
+        }
+        i += 1;
+    }
+    n
+}
+
+// What an arrival is refused for where n are present.
+fn check_arrival(ids: &[u16; 64], n: usize, c: Candidate) -> Check
+    requires { ⌜ n ≤ 64 ⌝ }
+    ensures { λ r. ⌜ verdict r ≡ Memory.check (take n (now (ids .entry))) (arrival c) ⌝ }
+{
+    c.check()
+        .then(refuse(Refusal::Full, n < ROOM))
+        .then(refuse(Refusal::Id, n <= find(ids, n, c.id)))
+}
+
+// A candidate arrives.
+pub fn arrive(
+    count: &mut usize,
+    ids: &mut [u16; 64],
+    densities: &mut [f64; 64],
+    c: Candidate,
+) -> Check
+    ensures { λ r. ⌜ Called (memory (now (count .entry)) (now (ids .entry)) (now (densities .entry))) (arrival c) (verdict r) (memory (now (count .exit)) (now (ids .exit)) (now (densities .exit))) ⌝ }
+{
+    let n = listed(*count);
+    let check = check_arrival(ids, n, c);
+    if let Check::Refused(why) = check {
+        return Check::Refused(why);
+    }
+    let at = place(ids, densities, n, c);
+    columns::put_id(ids, n, at, c.id);
+    columns::put_number(densities, n, at, c.density);
+    *count = n + 1;
+    Check::Accepted
+}
+
+// The candidate that has the id departs.
+pub fn depart(
+    count: &mut usize,
+    ids: &mut [u16; 64],
+    densities: &mut [f64; 64],
+    id: u16,
+) -> Check
+    ensures { λ r. ⌜ Called (memory (now (count .entry)) (now (ids .entry)) (now (densities .entry))) (departure id) (verdict r) (memory (now (count .exit)) (now (ids .exit)) (now (densities .exit))) ⌝ }
+{
+    let n = listed(*count);
+    let at = find(ids, n, id);
+    if at < n {
+        columns::take_id(ids, n, at);
+        columns::take_number(densities, n, at);
+        *count = n - 1;
+        return Check::Accepted;
+    }
+    Check::Refused(Refusal::Id)
+}
