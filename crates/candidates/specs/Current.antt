@@ -2,7 +2,7 @@
 -- It says what the list is by who is present and what stands before what, and nothing of places or of how a candidate is put in.
 use Prim.Native.Nat.{ℕ, suc, _≤_}
 use mathlib.Core.{Path._≡_, Bool.Bool, Bool.not, Bool._&&_, Bool._||_, Bool.cond, List.List, List.[], List._∷_, List.map, List.List·Permᴰ}
-use lib.Dec.{T, eqb, ltb}
+use lib.Dec.{T, ltb}
 use lib.ListN.{length}
 use Rattle.numbers.specs.Refusal.{Verdict}
 use Rattle.candidates.specs.Candidate.{Candidate, goesBefore, hasId, CandidateF64}
@@ -18,7 +18,7 @@ pub record Present : Type 0 where
 unfoldable pub settle : List Present → Call → Verdict
 settle ps call = check (map (λ p. p .candidate .id) ps) call
 
--- all but the one that has the id
+-- all but those that have the id
 unfoldable pub others : ℕ → List Present → List Present
 others id [] = []
 others id (p ∷ ps) = cond (hasId id (p .candidate)) (others id ps) (p ∷ others id ps)

@@ -1,7 +1,6 @@
 -- Lists by places and by tests: what a search finds, one put in, one taken out. Definitions only.
-use Prim.Native.Nat.{ℕ, suc, _-_}
+use Prim.Native.Nat.{ℕ, suc}
 use mathlib.Core.{Bool.Bool, Bool.cond, List.List, List.[], List._∷_, List._++_}
-use lib.Dec.{eqb}
 use lib.ListN.{length, take, drop}
 
 -- the place of the first that passes the test, or the length

@@ -1,14 +1,13 @@
 // One column of a list in memory: an entry is put in at a place of the first n, or taken out, and the
 // places past them stay as they are.
 ghost use mathlib.Core.Path.{_≡_};
-ghost use mathlib.Core.List.{_++_};
-ghost use Prim.Native.Nat.{suc, _-_, _≤_, _<_};
-ghost use lib.ListN.{take, drop};
-ghost use Rattle.candidates.specs.Lists.{insertAt, removeAt};
+ghost use Prim.Native.Nat.{_≤_, _<_};
+ghost use lib.ListN.{length, take};
+ghost use Rattle.candidates.specs.Lists.{insertAt, removeAt, over};
 
-pub(crate) fn put_id(ids: &mut [u16; 64], n: usize, at: usize, id: u16)
-    requires { ⌜ (at ≤ n) × (n < 64) ⌝ }
-    ensures { λ _. ⌜ now (ids .exit) ≡ insertAt at id (take n (now (ids .entry))) ++ drop (suc n) (now (ids .entry)) ⌝ }
+pub(crate) fn put_id(ids: &mut [u16], n: usize, at: usize, id: u16)
+    requires { ⌜ (at ≤ n) × (n < length (now ids)) ⌝ }
+    ensures { λ _. ⌜ now (ids .exit) ≡ over (insertAt at id (take n (now (ids .entry)))) (now (ids .entry)) ⌝ }
 {
     let mut next = id;
     let mut i = at;
@@ -20,9 +19,9 @@ pub(crate) fn put_id(ids: &mut [u16; 64], n: usize, at: usize, id: u16)
     }
 }
 
-pub(crate) fn put_number(xs: &mut [f64; 64], n: usize, at: usize, x: f64)
-    requires { ⌜ (at ≤ n) × (n < 64) ⌝ }
-    ensures { λ _. ⌜ now (xs .exit) ≡ insertAt at x (take n (now (xs .entry))) ++ drop (suc n) (now (xs .entry)) ⌝ }
+pub(crate) fn put_number(xs: &mut [f64], n: usize, at: usize, x: f64)
+    requires { ⌜ (at ≤ n) × (n < length (now xs)) ⌝ }
+    ensures { λ _. ⌜ now (xs .exit) ≡ over (insertAt at x (take n (now (xs .entry)))) (now (xs .entry)) ⌝ }
 {
     let mut next = x;
     let mut i = at;
@@ -34,9 +33,9 @@ pub(crate) fn put_number(xs: &mut [f64; 64], n: usize, at: usize, x: f64)
     }
 }
 
-pub(crate) fn take_id(ids: &mut [u16; 64], n: usize, at: usize)
-    requires { ⌜ (at < n) × (n ≤ 64) ⌝ }
-    ensures { λ _. ⌜ now (ids .exit) ≡ removeAt at (take n (now (ids .entry))) ++ drop (n - 1) (now (ids .entry)) ⌝ }
+pub(crate) fn take_id(ids: &mut [u16], n: usize, at: usize)
+    requires { ⌜ (at < n) × (n ≤ length (now ids)) ⌝ }
+    ensures { λ _. ⌜ now (ids .exit) ≡ over (removeAt at (take n (now (ids .entry)))) (now (ids .entry)) ⌝ }
 {
     let last = n - 1;
     let mut i = at;
@@ -46,9 +45,9 @@ pub(crate) fn take_id(ids: &mut [u16; 64], n: usize, at: usize)
     }
 }
 
-pub(crate) fn take_number(xs: &mut [f64; 64], n: usize, at: usize)
-    requires { ⌜ (at < n) × (n ≤ 64) ⌝ }
-    ensures { λ _. ⌜ now (xs .exit) ≡ removeAt at (take n (now (xs .entry))) ++ drop (n - 1) (now (xs .entry)) ⌝ }
+pub(crate) fn take_number(xs: &mut [f64], n: usize, at: usize)
+    requires { ⌜ (at < n) × (n ≤ length (now xs)) ⌝ }
+    ensures { λ _. ⌜ now (xs .exit) ≡ over (removeAt at (take n (now (xs .entry)))) (now (xs .entry)) ⌝ }
 {
     let last = n - 1;
     let mut i = at;

@@ -9,7 +9,7 @@ ghost use mathlib.Core.Path.{_≡_};
 ghost use mathlib.Core.Bool.{cond};
 ghost use Prim.Native.Nat.{_≤_};
 ghost use lib.Dec.{ltb};
-ghost use lib.ListN.{take};
+ghost use lib.ListN.{length, take};
 ghost use Rattle.numbers.specs.Refusal.{verdict};
 ghost use Rattle.candidates.specs.Lists.{firstWhere};
 ghost use Rattle.candidates.specs.Candidate.{goesBefore};
@@ -30,8 +30,8 @@ fn listed(count: usize) -> usize
 }
 
 // The place of an id among the first n, or n.
-fn find(ids: &[u16; 64], n: usize, id: u16) -> usize
-    requires { ⌜ n ≤ 64 ⌝ }
+fn find(ids: &[u16], n: usize, id: u16) -> usize
+    requires { ⌜ n ≤ length (now ids) ⌝ }
     ensures { λ r. ⌜ r ≡ firstWhere (isId id) (take n (now (ids .entry))) ⌝ }
 {
     let mut i = 0;
@@ -45,8 +45,8 @@ fn find(ids: &[u16; 64], n: usize, id: u16) -> usize
 }
 
 // The place of an arrival among the first n: before the first that it goes before.
-fn place(ids: &[u16; 64], densities: &[f64; 64], n: usize, c: Candidate) -> usize
-    requires { ⌜ n ≤ 64 ⌝ }
+fn place(ids: &[u16], densities: &[f64], n: usize, c: Candidate) -> usize
+    requires { ⌜ (length (now ids) ≡ length (now densities)) × (n ≤ length (now ids)) ⌝ }
     ensures { λ r. ⌜ r ≡ firstWhere (goesBefore c) (take n (rows (now (ids .entry)) (now (densities .entry)))) ⌝ }
 {
     let mut i = 0;
@@ -64,8 +64,8 @@ fn place(ids: &[u16; 64], densities: &[f64; 64], n: usize, c: Candidate) -> usiz
 }
 
 // What an arrival is refused for where n are present.
-fn check_arrival(ids: &[u16; 64], n: usize, c: Candidate) -> Check
-    requires { ⌜ n ≤ 64 ⌝ }
+fn check_arrival(ids: &[u16], n: usize, c: Candidate) -> Check
+    requires { ⌜ n ≤ length (now ids) ⌝ }
     ensures { λ r. ⌜ verdict r ≡ Memory.check (take n (now (ids .entry))) (arrival c) ⌝ }
 {
     c.check()

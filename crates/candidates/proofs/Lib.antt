@@ -1,0 +1,8 @@
+-- The laws that the proofs share, and the theorem over every list of calls.
+pub mod Lists
+pub mod Rows
+pub mod Ids
+pub mod Order
+pub mod Sorted
+pub mod Present
+pub mod Current

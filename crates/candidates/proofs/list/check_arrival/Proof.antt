@@ -1,0 +1,32 @@
+-- `candidates::list::check_arrival` meets its contract: the definition, check by check; that an id is not among the first n is that its place is n (`not-among`).
+use native.Mathlib.Omega.{arith}
+use mathlib.Core.Path.{_≡_, sym}
+use borrow.Author.Needs.{needs}
+use lib.ListN.{length, take, length-take}
+use Rattle.numbers.specs.Refusal.{number}
+use Rattle.candidates.specs.Memory.{check}
+use Rattle.candidates.proofs.Ids.{not-among}
+use Rattle.candidates.proofs.list.check_arrival.Statement.{statement}
+use Rattle.candidates.proofs.list.check_arrival.Tie as tie
+
+returns : tie.Need-returns
+unfolding check number
+returns c =
+    let f = c .before .before .before .before .before in
+    let a = f .before .before .args in
+    let m = length-take (a .n) (a .ids .now) in
+    let e : length (take (a .n) (a .ids .now)) ≡ a .n = omega arith in
+    rw (
+      c .then2 .ensures,
+      c .before .refuse2 .ensures,
+      c .before .before .find .ensures,
+      c .before .before .before .then .ensures,
+      c .before .before .before .before .refuse .ensures,
+      f .check .ensures,
+      ← not-among (a .c .id) (take (a .n) (a .ids .now)),
+      e,
+    )
+
+pub check-arrival-spec : {M : Type 1} → statement M
+check-arrival-spec = tie.close (tie.spec (λ c κs. search needs) (λ c κs. search needs) (λ c κs. search needs) (λ c κs. search needs)
+    (λ c κs. search needs) (λ c κs. search needs) returns)
