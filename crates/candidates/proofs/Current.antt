@@ -1,42 +1,20 @@
 -- The list is kept current (`KeptCurrent` of specs/Current.antt): after every call of every list of calls from an empty list it is exactly
 -- the present candidates, each a single time, in the order, and the answer is the one that who is present gives. By induction on the list of calls.
-use Prim.Native.Nat.{ℕ, suc, _≤_, _<_}
+use Prim.Native.Nat.{ℕ, suc, _≤_}
 use native.Mathlib.Omega.{arith}
 use mathlib.Core.Path.{_≡_, refl, sym, ap, _∙_}
-use mathlib.Core.Bool.{not}
 use mathlib.Core.List.{List, [], _∷_, map, map-map, List·Permᴰ, List·Permᴰ·nil, List·Permᴰ·cons, List·Permᴰ·trans, Permᴰ·symm, Permᴰ·map}
-use lib.Dec.{T, ltb, T-not, ltb→lt}
 use lib.ListN.{length, length-map}
-use Rattle.numbers.specs.Refusal.{Verdict, accepted, rejected, refuse, _then_}
-use Rattle.numbers.proofs.refusal.Checks.{test-passed, first-passed, next-passed}
-use Rattle.candidates.specs.Candidate.{Candidate, checkCandidate, CandidateF64}
-use Rattle.candidates.specs.Memory.{Memory, listed, holding, Call, arrival, departure, isAmong, check, insert, remove, changed}
+use Rattle.numbers.specs.Refusal.{Verdict, accepted, rejected}
+use Rattle.candidates.specs.Candidate.{Candidate, CandidateF64}
+use Rattle.candidates.specs.Memory.{Memory, listed, holding, Call, arrival, departure, insert, remove, changed}
 use Rattle.candidates.specs.Memory.{answer, unlessRefused, left}
 use Rattle.candidates.specs.Current.{Present, settle, others, accept, after, Every, Pairwise, Current, CallF64, Throughout, Empty, KeptCurrent}
 use Rattle.candidates.proofs.Rows.{listed-ids, Sized, listed-holding, sized-holding}
+use Rattle.candidates.proofs.Passed.{passed}
 use Rattle.candidates.proofs.Order.{ready}
 use Rattle.candidates.proofs.Sorted.{every-both, length-perm, every-perm, pairwise-perm, length-part, every-part, pairwise-part, pairwise-map}
 use Rattle.candidates.proofs.Present.{candidates, ids, Before, Unlike, check-perm, none-among, Known, put-in, perm-others, part-others, taken-out}
-
--- ---- what an accepted arrival passed, ids being those of the present
-record Passed (ids : List ℕ) (c : Candidate) : Type 0 where
-  alone : checkCandidate c ≡ accepted
-  room : length ids < 64
-  none : T (isAmong (c .id) ids) → ⊥
-
-passed : (ids : List ℕ) (c : Candidate) → check ids (arrival c) ≡ accepted → Passed ids c
-unfolding check
-passed ids c ok =
-    let room = refuse 11 (ltb (length ids) 64) in
-    let id = refuse 12 (not (isAmong (c .id) ids)) in
-    let two = first-passed (checkCandidate c then room) id ok in
-    record {
-      alone = first-passed (checkCandidate c) room two;
-      room = ltb→lt (length ids) 64 (test-passed 11 (ltb (length ids) 64) (next-passed (checkCandidate c) room two));
-      none =
-          T-not (isAmong (c .id) ids)
-          (test-passed 12 (not (isAmong (c .id) ids)) (next-passed (checkCandidate c then room) id ok));
-    }
 
 -- ---- between calls: n were made, ps is who is present, cs the list
 record Good (n : ℕ) (cs : List Candidate) (ps : List Present) : Type 0 where

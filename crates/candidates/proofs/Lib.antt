@@ -2,7 +2,9 @@
 pub mod Lists
 pub mod Rows
 pub mod Ids
+pub mod Passed
 pub mod Order
 pub mod Sorted
 pub mod Present
 pub mod Current
+pub mod Calls

@@ -11,7 +11,7 @@ use Rattle.candidates.specs.Lists.{firstWhere, insertAt, removeAt, over}
 
 -- ---- a search
 module _ {A : Type 0} (p : A → Bool) where
-  pub first-le : (xs : List A) → firstWhere p xs ≤ length xs
+  first-le : (xs : List A) → firstWhere p xs ≤ length xs
   unfolding firstWhere
   first-le [] = omega arith
   first-le (x ∷ xs) = go (p x) (first-le xs)
@@ -19,6 +19,9 @@ module _ {A : Type 0} (p : A → Bool) where
       go : (b : Bool) → firstWhere p xs ≤ length xs → cond b 0 (suc (firstWhere p xs)) ≤ suc (length xs)
       go true h = omega arith
       go false h = omega arith
+
+  pub first-within : (n : ℕ) (xs : List A) → firstWhere p (take n xs) ≤ n
+  first-within n xs = let h = first-le (take n xs) in let l = length-take n xs in omega arith
 
   -- its loop through the first n of xs, at i: those passed failed the test
   pub record Searching (n : ℕ) (xs : List A) (i : ℕ) : Type 0 where

@@ -47,7 +47,7 @@ rows-of [] = refl
 rows-of (c ∷ cs) = ap (λ (l : List Candidate). c ∷ l) (rows-of cs)
 
 -- ---- the list in memory
-take-map : {A B : Type 0} (f : A → B) (k : ℕ) (xs : List A) → map f (take k xs) ≡ take k (map f xs)
+pub take-map : {A B : Type 0} (f : A → B) (k : ℕ) (xs : List A) → map f (take k xs) ≡ take k (map f xs)
 take-map f zero xs = refl
 take-map f (suc k) [] = refl
 take-map {B} f (suc k) (x ∷ xs) = ap (λ (l : List B). f x ∷ l) (take-map f k xs)

@@ -31,14 +31,16 @@ listed m = take (m .count) (rows (m .ids) (m .densities))
 unfoldable pub listedIds : Memory → List ℕ
 listedIds m = take (m .count) (m .ids)
 
--- memory once it has another list: places past the list are as they were
+-- the columns of a list written over those of before: places past the list are as they were
+abbrev pub idsOver : List Candidate → List ℕ → List ℕ
+idsOver cs ids = over (map (λ c. c .id) cs) ids
+
+abbrev pub densitiesOver : List Candidate → List Float → List Float
+densitiesOver cs densities = over (map (λ c. c .density) cs) densities
+
+-- memory once it holds another list
 unfoldable pub holding : Memory → List Candidate → Memory
-holding m cs =
-    record {
-      count = length cs;
-      ids = over (map (λ c. c .id) cs) (m .ids);
-      densities = over (map (λ c. c .density) cs) (m .densities);
-    }
+holding m cs = memory (length cs) (idsOver cs (m .ids)) (densitiesOver cs (m .densities))
 
 -- ---- the two calls
 pub data Call : Type 0 where
@@ -84,6 +86,11 @@ unlessRefused (rejected n) before after = before
 
 unfoldable pub left : Memory → Call → Memory
 left m call = unlessRefused (answer m call) m (holding m (changed call (listed m)))
+
+-- ---- contracts
+-- the list cs was written over the columns
+abbrev pub Written : List Candidate → List ℕ → List Float → List ℕ → List Float → Type 0
+Written cs ids densities ids' densities' = (ids' ≡ idsOver cs ids) × (densities' ≡ densitiesOver cs densities)
 
 -- the contract of a call that finds m in memory, answers v and leaves m'
 abbrev pub Called : Memory → Call → Verdict → Memory → Type 0

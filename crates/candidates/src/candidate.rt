@@ -1,8 +1,8 @@
 // A candidate direction: its id and its density.
 use floats::float;
-use numbers::refusal::refuse;
 use numbers::refusal::Check;
 use numbers::refusal::Refusal;
+use numbers::refusal::refuse;
 ghost use mathlib.Core.Path.{_≡_};
 ghost use Rattle.numbers.specs.Refusal.{verdict};
 ghost use Rattle.candidates.specs.Candidate.{isDensity, checkCandidate, goesBefore};

@@ -2,26 +2,24 @@
 // and as many for their densities, lent by the caller. Refused, a call leaves them as they were.
 use crate::candidate::Candidate;
 use crate::columns;
-use numbers::refusal::refuse;
 use numbers::refusal::Check;
 use numbers::refusal::Refusal;
+use numbers::refusal::refuse;
 ghost use mathlib.Core.Path.{_≡_};
-ghost use mathlib.Core.Bool.{cond};
-ghost use Prim.Native.Nat.{_≤_};
-ghost use lib.Dec.{ltb};
+ghost use Prim.Native.Nat.{min, _≤_, _<_};
 ghost use lib.ListN.{length, take};
 ghost use Rattle.numbers.specs.Refusal.{verdict};
-ghost use Rattle.candidates.specs.Lists.{firstWhere};
+ghost use Rattle.candidates.specs.Lists.{firstWhere, removeAt};
 ghost use Rattle.candidates.specs.Candidate.{goesBefore};
 ghost use Rattle.candidates.specs.Memory as Memory;
-ghost use Rattle.candidates.specs.Memory.{memory, rows, isId, Called, arrival, departure};
+ghost use Rattle.candidates.specs.Memory.{memory, rows, isId, Written, Called, arrival, departure};
 
 // How many candidates a list has room for.
 const ROOM: usize = 64;
 
 // How many places are looked at.
 fn listed(count: usize) -> usize
-    ensures { λ r. ⌜ r ≡ cond (ltb count 64) count 64 ⌝ }
+    ensures { λ r. ⌜ r ≡ min count 64 ⌝ }
 {
     if count < ROOM {
         return count;
@@ -73,6 +71,25 @@ fn check_arrival(ids: &[u16], n: usize, c: Candidate) -> Check
         .then(refuse(Refusal::Id, n <= find(ids, n, c.id)))
 }
 
+// A candidate is put in among the first n.
+fn insert(ids: &mut [u16], densities: &mut [f64], n: usize, c: Candidate)
+    requires { ⌜ (length (now ids) ≡ length (now densities)) × (n < length (now ids)) ⌝ }
+    ensures { λ _. ⌜ Written (Memory.insert c (take n (rows (now (ids .entry)) (now (densities .entry))))) (now (ids .entry)) (now (densities .entry)) (now (ids .exit)) (now (densities .exit)) ⌝ }
+{
+    let at = place(ids, densities, n, c);
+    columns::put_id(ids, n, at, c.id);
+    columns::put_number(densities, n, at, c.density);
+}
+
+// The candidate at a place of the first n is taken out.
+fn remove(ids: &mut [u16], densities: &mut [f64], n: usize, at: usize)
+    requires { ⌜ (length (now ids) ≡ length (now densities)) × (at < n) × (n ≤ length (now ids)) ⌝ }
+    ensures { λ _. ⌜ Written (removeAt at (take n (rows (now (ids .entry)) (now (densities .entry))))) (now (ids .entry)) (now (densities .entry)) (now (ids .exit)) (now (densities .exit)) ⌝ }
+{
+    columns::take_id(ids, n, at);
+    columns::take_number(densities, n, at);
+}
+
 // A candidate arrives.
 pub fn arrive(
     count: &mut usize,
@@ -87,27 +104,19 @@ pub fn arrive(
     if let Check::Refused(why) = check {
         return Check::Refused(why);
     }
-    let at = place(ids, densities, n, c);
-    columns::put_id(ids, n, at, c.id);
-    columns::put_number(densities, n, at, c.density);
+    insert(ids, densities, n, c);
     *count = n + 1;
     Check::Accepted
 }
 
 // The candidate that has the id departs.
-pub fn depart(
-    count: &mut usize,
-    ids: &mut [u16; 64],
-    densities: &mut [f64; 64],
-    id: u16,
-) -> Check
+pub fn depart(count: &mut usize, ids: &mut [u16; 64], densities: &mut [f64; 64], id: u16) -> Check
     ensures { λ r. ⌜ Called (memory (now (count .entry)) (now (ids .entry)) (now (densities .entry))) (departure id) (verdict r) (memory (now (count .exit)) (now (ids .exit)) (now (densities .exit))) ⌝ }
 {
     let n = listed(*count);
     let at = find(ids, n, id);
     if at < n {
-        columns::take_id(ids, n, at);
-        columns::take_number(densities, n, at);
+        remove(ids, densities, n, at);
         *count = n - 1;
         return Check::Accepted;
     }

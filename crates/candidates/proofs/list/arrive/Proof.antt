@@ -1,64 +1,54 @@
+-- `candidates::list::arrive` meets its contract: what its stages give is the definition's (`refused-leaves`, `arrived`).
+use Prim.Native.Nat.{ℕ, _<_}
+use native.Mathlib.Omega.{arith}
+use mathlib.Core.Path.{_≡_, sym, ap, _∙_}
+use mathlib.Core.List.{List}
 use borrow.Author.Needs.{needs}
+use lib.ListN.{length}
+use Rattle.numbers.specs.Refusal.{verdict}
+use Rattle.candidates.specs.Memory.{memory, arrival, check, listedIds, answer}
+use Rattle.candidates.proofs.Calls.{refused-leaves, looked-at, room, arrived}
 use Rattle.candidates.proofs.list.arrive.Statement.{statement}
 use Rattle.candidates.proofs.list.arrive.Tie as tie
-use Rattle.candidates.proofs.list.arrive.Reads as reads
-use Rattle.candidates.proofs.list.arrive.Lts as lts
-use Rattle.candidates.proofs.columns.put_id.Reads as put-id-reads
-use Rattle.candidates.proofs.columns.put_number.Reads as put-number-reads
-use Rattle.candidates.proofs.list.check_arrival.Reads as check-arrival-reads
-use Rattle.candidates.proofs.list.listed.Reads as listed-reads
-use Rattle.candidates.proofs.list.place.Reads as place-reads
 
--- src/list.rt:85:9
-listed-requires : tie.Need-listed-requires
-listed-requires c κs = search needs
-
--- src/list.rt:86:9
-check-arrival-requires : tie.Need-check-arrival-requires
-check-arrival-requires c κs = ?
-
--- src/list.rt:87:27
-enum-known-check : tie.Need-enum-known-check
-enum-known-check c = search needs
-
--- src/list.rt:88:9
 returns : tie.Need-returns
-returns c = ?
+unfolding verdict answer listedIds
+returns c =
+    let s = c .before .before .before .before .before .before in
+    let a = s .before .before .args in
+    let m = memory (a .count .now) (a .ids .now) (a .densities .now) in
+    let l : length (a .ids .now) ≡ 64 = omega arith in
+    let v =
+    sym (ap verdict (c .before .check .given .1)) ∙ c .before .before .before .check-arrival .ensures
+    ∙ ap (λ (ids : List ℕ). check ids (arrival (a .c))) (looked-at _ (a .count .now) (a .ids .now) (s .listed .ensures) l) in
+    (v, refused-leaves m (arrival (a .c)) _ v)
 
-enum-told : tie.Need-enum-told
-enum-told c = search needs
+insert-requires : tie.Need-insert-requires
+unfolding verdict
+insert-requires c κs =
+    let k = c .before .before .before .before in
+    let s = k .before .before .before in
+    let a = s .before .before .args in
+    let l : length (a .ids .now) ≡ 64 = omega arith in
+    let d : length (a .densities .now) ≡ 64 = omega arith in
+    let v = sym (k .check-arrival .ensures) ∙ ap verdict (c .before .before .enum-told .given .1) in
+    let r : s .listed .result < 64 = room (s .listed .result) (a .ids .now) (a .c) l v (omega (arith, s .listed .ensures)) in
+    (l ∙ sym d, omega arith)
 
--- src/list.rt:90:9
-place-requires : tie.Need-place-requires
-place-requires c κs = ?
-
--- src/list.rt:91:5
-put-id-requires : tie.Need-put-id-requires
-put-id-requires c κs = ?
-
--- src/list.rt:92:5
-put-number-requires : tie.Need-put-number-requires
-put-number-requires c κs = ?
-
--- src/list.rt:93:14
-add-count : tie.Need-add-count
-add-count c = ?
-
--- src/list.rt:77:1
 returns-2 : tie.Need-returns-2
-returns-2 c = ?
+unfolding verdict answer listedIds
+returns-2 c =
+    let k = c .before .before .before .before .before in
+    let s = k .before .before .before in
+    let a = s .before .before .args in
+    let m = memory (a .count .now) (a .ids .now) (a .densities .now) in
+    let l : length (a .ids .now) ≡ 64 = omega arith in
+    let d : length (a .densities .now) ≡ 64 = omega arith in
+    let v =
+    sym (ap verdict (c .before .before .before .enum-told .given .1)) ∙ k .check-arrival .ensures
+    ∙ ap (λ (ids : List ℕ). check ids (arrival (a .c))) (looked-at _ (a .count .now) (a .ids .now) (s .listed .ensures) l) in
+    (v, rw (c .insert .ensures .0, c .insert .ensures .1) (arrived m (record { ids = l; densities = d }) (s .listed .result) (s .listed .ensures) (a .c) v))
 
 pub arrive-spec : {M : Type 1} → statement M
-arrive-spec =
-    tie.close
-    (tie.spec
-    listed-requires
-    check-arrival-requires
-    enum-known-check
-    returns
-    enum-told
-    place-requires
-    put-id-requires
-    put-number-requires
-    add-count
-    returns-2)
+arrive-spec = tie.close (tie.spec (λ c κs. search needs) (λ c κs. omega (arith, c .before .before .listed .ensures)) (λ c. search needs) returns
+    (λ c. search needs) insert-requires (λ c. omega (arith, c .before .before .before .before .before .before .before .before .listed .ensures)) returns-2)

@@ -1,49 +1,47 @@
+-- `candidates::list::depart` meets its contract: what its stages give is the definition's (`departs`, `departed`, `refused-leaves`).
+use native.Mathlib.Omega.{arith}
+use mathlib.Core.Path.{_≡_, sym, _∙_}
 use borrow.Author.Needs.{needs}
+use lib.ListN.{length}
+use Rattle.numbers.specs.Refusal.{verdict, number}
+use Rattle.candidates.specs.Memory.{memory, departure, listedIds, answer}
+use Rattle.candidates.proofs.Calls.{refused-leaves, departs, departs-not, departed}
 use Rattle.candidates.proofs.list.depart.Statement.{statement}
 use Rattle.candidates.proofs.list.depart.Tie as tie
-use Rattle.candidates.proofs.list.depart.Reads as reads
-use Rattle.candidates.proofs.list.depart.Lts as lts
-use Rattle.candidates.proofs.columns.take_id.Reads as take-id-reads
-use Rattle.candidates.proofs.columns.take_number.Reads as take-number-reads
-use Rattle.candidates.proofs.list.find.Reads as find-reads
-use Rattle.candidates.proofs.list.listed.Reads as listed-reads
 
--- src/list.rt:106:9
-listed-requires : tie.Need-listed-requires
-listed-requires c κs = search needs
+remove-requires : tie.Need-remove-requires
+remove-requires c κs =
+    let s = c .before .before .before .before .before .before in
+    let a = s .before .before .args in
+    let l : length (a .ids .now) ≡ 64 = omega arith in
+    let d : length (a .densities .now) ≡ 64 = omega arith in
+    (l ∙ sym d, omega arith, omega (arith, s .listed .ensures))
 
--- src/list.rt:107:9
-find-requires : tie.Need-find-requires
-find-requires c κs = ?
-
--- src/list.rt:109:9
-take-id-requires : tie.Need-take-id-requires
-take-id-requires c κs = ?
-
--- src/list.rt:110:9
-take-number-requires : tie.Need-take-number-requires
-take-number-requires c κs = ?
-
--- src/list.rt:111:18
-sub-count : tie.Need-sub-count
-sub-count c = search needs
-
--- src/list.rt:112:9
 returns : tie.Need-returns
-returns c = ?
+unfolding verdict answer listedIds
+returns c =
+    let f = c .before .before .before .before in
+    let s = f .before .before .before in
+    let a = s .before .before .args in
+    let m = memory (a .count .now) (a .ids .now) (a .densities .now) in
+    let n = s .listed .result in
+    let l : length (a .ids .now) ≡ 64 = omega arith in
+    let d : length (a .densities .now) ≡ 64 = omega arith in
+    let v = departs n (a .count .now) (a .ids .now) (a .id) (s .listed .ensures) l (omega (arith, f .find .ensures)) in
+    let e = departed m (record { ids = l; densities = d }) n (s .listed .ensures) (a .id) (f .find .result) (f .find .ensures) (omega arith) v in
+    (v, rw (c .remove .ensures .0, c .remove .ensures .1) e)
 
--- src/list.rt:98:1
 returns-2 : tie.Need-returns-2
-returns-2 c = ?
+unfolding verdict number answer listedIds
+returns-2 c =
+    let f = c .before in
+    let s = f .before .before .before in
+    let a = s .before .before .args in
+    let m = memory (a .count .now) (a .ids .now) (a .densities .now) in
+    let l : length (a .ids .now) ≡ 64 = omega arith in
+    let v = departs-not (s .listed .result) (a .count .now) (a .ids .now) (a .id) (s .listed .ensures) l (omega (arith, f .find .ensures)) in
+    (v, refused-leaves m (departure (a .id)) 12 v)
 
 pub depart-spec : {M : Type 1} → statement M
-depart-spec =
-    tie.close
-    (tie.spec
-    listed-requires
-    find-requires
-    take-id-requires
-    take-number-requires
-    sub-count
-    returns
-    returns-2)
+depart-spec = tie.close (tie.spec (λ c κs. search needs) (λ c κs. omega (arith, c .before .before .listed .ensures)) remove-requires
+    (λ c. search needs) returns returns-2)

@@ -34,10 +34,12 @@ returns c =
 loop-again : tie.Need-loop-again Inv-loop μ-loop
 loop-again c =
     let l = c .before .before .before .before .before .loop in
-    let a = c .before .before .before .before .before .before .before .before .args in
-    (l .inv .0, searching-next _ _ _ (a .c) (l .i) (l .inv .1) (omega arith)
-    (ap (goesBefore (a .c)) (row-at (a .ids .now) (a .densities .now) (l .i) (omega arith) (l .inv .0) (a .c))
-    ∙ sym (c .before .goes-before .ensures) ∙ c .if1 .left))
+    let a = c .before .before .before .before .before .before .before .before .args in (
+      l .inv .0,
+      searching-next _ _ _ (a .c) (l .i) (l .inv .1) (omega arith)
+          (ap (goesBefore (a .c)) (row-at (a .ids .now) (a .densities .now) (l .i) (omega arith) (l .inv .0) (a .c))
+          ∙ sym (c .before .goes-before .ensures) ∙ c .if1 .left),
+    )
 
 returns-2 : tie.Need-returns-2 Inv-loop μ-loop
 returns-2 c = let l = c .before .loop in searching-ends _ _ _ (l .i) (l .inv .1) (omega arith)
