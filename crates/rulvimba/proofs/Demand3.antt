@@ -10,9 +10,8 @@ use lib.Ieee.{Float, le}
 use lib.ListN.{length}
 use borrow.Author.Tests.{leb-true, leb-false}
 use Rattle.floats.specs.Float.{f0, isFinite}
-use Rattle.numbers.specs.Refusal.{number, Verdict, accepted, rejected, _then_, refuse, _▷_}
-use Rattle.numbers.specs.declared.refusal.Refusal.{Refusal}
-use Rattle.numbers.specs.declared.refusal.Refusal.the-variants as W
+use Rattle.numbers.specs.Refusal.{Verdict, accepted, rejected, _then_, refuse, _▷_}
+use Rattle.numbers.proofs.refusal.Numbers.{number-positive}
 use Rattle.optics.specs.Surface.{Microsurface, kindCode, kindOf}
 use Rattle.optics.specs.Bxdf.{Scattered, scattered, totally}
 use Rattle.optics.specs.Bxdf as Bxdf
@@ -120,22 +119,9 @@ shares-record Metal (S.Of F rest) h e = absurd h
 shares-record Glass S.None h e = absurd h
 shares-record Glass (S.Of F rest) h e = h
 
-positive : (why : Refusal) → 0 < number why
-unfolding number
-positive W.Roughness = omega arith
-positive W.Eta = omega arith
-positive W.K = omega arith
-positive W.Wavelength = omega arith
-positive W.Direction = omega arith
-positive W.RandomNumber = omega arith
-positive W.CirclePair = omega arith
-positive W.Filter = omega arith
-positive W.NotFinite = omega arith
-positive W.Power = omega arith
-
 handed : (kind : Kind) (a : Bounced) → AnswerHolds kind (outcome a) → Handed kind (bounceResult (outcome a))
 unfolding outcome bounceResult
-handed kind (B.Refused why p) h = record { given = λ e. let z = positive why in absurd (omega arith); shares = λ e. absurd (omega arith); density = no-density }
+handed kind (B.Refused why p) h = record { given = λ e. let z = number-positive why in absurd (omega arith); shares = λ e. absurd (omega arith); density = no-density }
 handed kind (B.Lost shares p) h = record { given = λ _. shares-given kind shares h; shares = shares-record kind shares h; density = no-density }
 handed kind (B.Reflected wi density shares p) h = record { given = λ _. shares-given kind shares (h .0); shares = shares-record kind shares (h .0); density = density-record density (h .1) }
 handed kind (B.Passed wi density shares p) h = record { given = λ _. shares-given kind shares (h .0); shares = shares-record kind shares (h .0); density = density-record density (h .1) }

@@ -2,4 +2,5 @@
 pub mod Results
 pub mod Surfaces
 pub mod Paths
+pub mod Lists
 pub mod Demand3

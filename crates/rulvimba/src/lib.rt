@@ -2,6 +2,7 @@
 // returns what a definition of the crates below says, laid out by the definitions of specs/, and says
 // what the caller's memory then holds. None asks anything of its caller but that its pointers are good.
 mod bounces;
+mod lists;
 mod paths;
 pub mod records;
 pub mod surfaces;
