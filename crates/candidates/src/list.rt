@@ -66,9 +66,10 @@ fn check_arrival(ids: &[u16], n: usize, c: Candidate) -> Check
     requires { ⌜ n ≤ length (now ids) ⌝ }
     ensures { λ r. ⌜ verdict r ≡ Memory.check (take n (now (ids .entry))) (arrival c) ⌝ }
 {
+    let absent = n <= find(ids, n, c.id);
     c.check()
         .then(refuse(Refusal::Full, n < ROOM))
-        .then(refuse(Refusal::Id, n <= find(ids, n, c.id)))
+        .then(refuse(Refusal::Id, absent))
 }
 
 // A candidate is put in among the first n.

@@ -19,10 +19,10 @@ returns c =
     rw (
       c .then2 .ensures,
       c .before .refuse2 .ensures,
-      c .before .before .find .ensures,
-      c .before .before .before .then .ensures,
-      c .before .before .before .before .refuse .ensures,
-      f .check .ensures,
+      c .before .before .then .ensures,
+      c .before .before .before .refuse .ensures,
+      c .before .before .before .before .check .ensures,
+      f .find .ensures,
       ← not-among (a .c .id) (take (a .n) (a .ids .now)),
       e,
     )
