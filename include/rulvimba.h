@@ -8,8 +8,9 @@
  * said here (crates/rulvimba/src has the contracts, crates/rulvimba/specs their layout for C). It reads
  * and writes nothing else, keeps no state, allocates nothing, and always returns. What is asked of the
  * caller: a pointer to an array is good for the length that goes with it, a pointer to a path is good
- * for eight doubles, neither is NULL (an array of length 0 included), a bool is 0 or 1, and what is
- * written to (path, output) overlaps nothing else that is handed in. The processor's float control is
+ * for eight doubles, those to a list's arrays for 64 entries, none is NULL (an array of length 0
+ * included), a bool is 0 or 1, and what is written to (path, output, list) overlaps nothing else that is
+ * handed in. The processor's float control is
  * the default (round to nearest, nothing flushed to zero): a program linked with -ffast-math, or one
  * that sets a rounding mode, gets other answers. Calls on different memory may run on different
  * threads. The library is for x86-64 with the System V ABI, as on Linux.
@@ -39,7 +40,7 @@
 #define RULVIMBA_H
 
 /* Raised with each change of a call, a struct or a number. */
-#define RULVIMBA_VERSION 1
+#define RULVIMBA_VERSION 2
 
 #include <stdbool.h>
 #include <stddef.h>
@@ -59,8 +60,10 @@ enum {
     RULVIMBA_REFUSED_RANDOM_NUMBER = 6, /* u or the disk number */
     RULVIMBA_REFUSED_CIRCLE_PAIR = 7,   /* c and s */
     RULVIMBA_REFUSED_FILTER = 8,        /* ks or tf */
-    RULVIMBA_REFUSED_NOT_FINITE = 9,    /* a density that is not finite */
-    RULVIMBA_REFUSED_POWER = 10
+    RULVIMBA_REFUSED_NOT_FINITE = 9,    /* a density that is not finite, or, to be listed, is below 0 */
+    RULVIMBA_REFUSED_POWER = 10,
+    RULVIMBA_REFUSED_FULL = 11,         /* 64 candidates are present */
+    RULVIMBA_REFUSED_ID = 12            /* an id that arrives and is present, or departs and is not */
 };
 
 /* ---- what goes in ---- */
@@ -227,6 +230,49 @@ rulvimba_direction_result rulvimba_refract(double eta, rulvimba_vec3 wo, rulvimb
  * 4 a wavelength outside 360 to 830, 0 included; 9 a density that is not finite. */
 rulvimba_float_result rulvimba_density(rulvimba_surface surface, const double *eta, size_t eta_len, const double *k,
                                        size_t k_len, rulvimba_vec3 wo, rulvimba_vec3 wi, bool reflection, double lambda);
+
+/* ---- the brightest directions: a list of candidates in the caller's memory ---- */
+
+/* A candidate direction: the caller's number for it, and its density. */
+typedef struct { uint16_t id; double density; } rulvimba_candidate;
+
+/*
+ * Up to 64 candidates: ids[0] and densities[0] are the first of the list, ids[count - 1] and
+ * densities[count - 1] the last. It is empty where count is 0, as in
+ *     rulvimba_candidates list = {0};
+ * and the two calls below are to be all that changes it. Then it is after every call exactly the present
+ * candidates, each a single time, greatest density first and equal densities in order of arrival; -0.0 and
+ * 0.0 are equal densities, and each is kept as it came. A candidate that departs and arrives again stands
+ * behind its equals.
+ */
+enum { RULVIMBA_CANDIDATES = 64 };
+typedef struct {
+    size_t count;
+    uint16_t ids[RULVIMBA_CANDIDATES];
+    double densities[RULVIMBA_CANDIDATES];
+} rulvimba_candidates;
+
+/*
+ * An arrival, and the departure of the candidate that has the id, on a list's parts (the two below take the
+ * struct). They return 0, and the first *count places hold the new list; every place past it is as it was.
+ * Refused: an arrival 9 for a density that is not finite or is below 0 (-0.0 is not); 11 if 64 are present;
+ * 12 if the id is present; a departure 12 if the id is not present; and count, ids and densities are as
+ * they were.
+ * On a list that other hands made: a count above 64 counts as 64; an arrival is put before the first whose
+ * density is less than its own, or else at the end; of several with the id the first departs.
+ */
+uint64_t rulvimba_arrive_in(size_t *count, uint16_t *ids, double *densities, rulvimba_candidate candidate);
+uint64_t rulvimba_depart_in(size_t *count, uint16_t *ids, double *densities, uint16_t id);
+
+static inline uint64_t rulvimba_arrive(rulvimba_candidates *list, rulvimba_candidate candidate)
+{
+    return rulvimba_arrive_in(&list->count, list->ids, list->densities, candidate);
+}
+
+static inline uint64_t rulvimba_depart(rulvimba_candidates *list, uint16_t id)
+{
+    return rulvimba_depart_in(&list->count, list->ids, list->densities, id);
+}
 
 #ifdef __cplusplus
 }

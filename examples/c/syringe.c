@@ -135,6 +135,33 @@ static void many(rulvimba_surface surface, const double *eta, const double *k) {
            memcmp(few, output, 2 * RULVIMBA_BOUNCE_OUT * sizeof few[0]) == 0 ? "yes" : "no", kept);
 }
 
+static void print_list(const char *what, const rulvimba_candidates *list) {
+    printf("%s:", what);
+    for (size_t i = 0; i < list->count; i++)
+        printf(" %" PRIu16 " (%.6f)", list->ids[i], list->densities[i]);
+    printf("\n");
+}
+
+/* the directions into which a surface sends most of the light from wo, brightest first; two lie as far to
+ * either side, so that they stand as they arrived. A shutter covers the first: it is withdrawn */
+static void brightest(rulvimba_surface surface, const double *eta, const double *k, rulvimba_vec3 wo) {
+    static const struct { uint16_t id; rulvimba_vec3 wi; } directions[] = {
+        {10, {0.0, -0.28, 0.96}}, {20, {0.0, -0.6, 0.8}},      {30, {0.0, -0.8, 0.6}},
+        {40, {0.36, -0.48, 0.8}}, {50, {-0.36, -0.48, 0.8}}};
+    rulvimba_candidates list = {0};
+    for (size_t i = 0; i < sizeof directions / sizeof directions[0]; i++) {
+        rulvimba_float_result f = rulvimba_density(surface, eta, ENTRIES, k, ENTRIES, wo, directions[i].wi, true, 530.0);
+        if (f.number == 0)
+            rulvimba_arrive(&list, (rulvimba_candidate){directions[i].id, f.value});
+    }
+    print_list("brightest", &list);
+    printf("  20 again: %" PRIu64, rulvimba_arrive(&list, (rulvimba_candidate){20, 1.0}));
+    printf(", a density below 0: %" PRIu64, rulvimba_arrive(&list, (rulvimba_candidate){60, -1.0}));
+    printf(", 20 is withdrawn: %" PRIu64, rulvimba_depart(&list, 20));
+    printf(" and again: %" PRIu64 "\n", rulvimba_depart(&list, 20));
+    print_list("without it", &list);
+}
+
 static void bench(const char *name, rulvimba_surface surface, const double *eta, const double *k) {
     for (size_t i = 0; i < MANY; i++)
         fill(input + i * RULVIMBA_BOUNCE_IN, i);
@@ -243,6 +270,7 @@ int main(int argc, char **argv) {
     printf("a kind of 2: %" PRIu64 "\n", rulvimba_check_surface(odd, steel_eta, ENTRIES, steel_k, ENTRIES));
     printf("steel as glass: %" PRIu64 "\n", rulvimba_make_surface(RULVIMBA_GLASS, 0.3, steel_eta, ENTRIES, steel_k, ENTRIES).number);
 
+    brightest(steel, steel_eta, steel_k, w);
     many(rough_glass, glass_eta, glass_k);
     many(steel, steel_eta, steel_k);
     return 0;
