@@ -1,10 +1,12 @@
 //! Times, here and in the Rust: the least of several passes, each over fresh data.
+use super::candidates::{Listed, Sorted};
 use super::harness::*;
 use super::inputs::Rng;
 use super::library::{run_bounces, Lent};
 use super::numbers::{basis_calls, root_calls, BasisCalls, RootCall};
 use super::optics::{of_surface_calls, OfSurface};
 use super::path::{plain, plain_many, surfaces_of, usual_bounce, usual_path, usual_surface, words_in, Bounce, Bounced, Path, INS, OUTS};
+use super::rulvimba::{Candidate, Candidates};
 use super::surfaces::Surface;
 use super::Function;
 use crate::Vec3;
@@ -269,6 +271,82 @@ fn bench_bounces(rng: &mut Rng) {
     }
 }
 
+/// A density and a number to draw by.
+type Draw = (f64, usize);
+
+fn draw(rng: &mut Rng) -> Draw {
+    (rng.unit(), rng.next() as usize)
+}
+
+/// A list of `n` candidates, and the calls on it: one arrives whose id is new, then one of those present departs.
+fn turns<L: Listed>(data: &[Draw], n: usize) -> (L, Vec<(Candidate, u16)>) {
+    let mut list = L::empty();
+    let mut present: Vec<u16> = (0..n as u16).collect();
+    for (id, (density, _)) in present.iter().zip(data) {
+        list.arrive(Candidate { id: *id, density: *density });
+    }
+    let calls = data.iter().zip(n as u16..).map(|((density, which), id)| {
+        present.push(id);
+        (Candidate { id, density: *density }, present.swap_remove(which % (n + 1)))
+    });
+    let calls = calls.collect();
+    (list, calls)
+}
+
+/// ns for an arrival and the departure after it.
+#[inline(never)]
+fn arrive_and_depart<L: Listed>(data: &[Draw], n: usize) -> f64 {
+    let (mut list, calls) = turns::<L>(data, n);
+    timed(calls.len(), || {
+        let mut sum = 0;
+        for (c, id) in &calls {
+            sum += list.arrive(*c) + list.depart(*id);
+        }
+        sum
+    })
+}
+
+/// ns for an arrival that is refused: by 12, or by 9 where the density is to be below 0.
+#[inline(never)]
+fn refused_arrival<L: Listed>(data: &[Draw], n: usize, below: bool) -> f64 {
+    let (mut list, _) = turns::<L>(data, n);
+    let sign = if below { -1.0 } else { 1.0 };
+    let calls: Vec<Candidate> = data.iter().map(|(x, which)| Candidate { id: (which % n) as u16, density: sign * (x + 0.5) }).collect();
+    timed(calls.len(), || {
+        let mut sum = 0;
+        for c in &calls {
+            sum += list.arrive(*c);
+        }
+        sum
+    })
+}
+
+/// What is timed gives the same answers and the same list on both sides.
+fn assert_same_lists(rng: &mut Rng, n: usize) {
+    fn run<L: Listed>(data: &[Draw], n: usize) -> (Vec<u64>, Vec<Candidate>) {
+        let (mut list, calls) = turns::<L>(data, n);
+        let numbers = calls.iter().flat_map(|(c, id)| [list.arrive(*c), list.depart(*id), list.arrive(Candidate { id: *id, density: -1.0 })]);
+        let numbers = numbers.collect();
+        (numbers, list.all())
+    }
+    let data: Vec<Draw> = (0..SIZE).map(|_| draw(rng)).collect();
+    let (here, rust) = (run::<Candidates>(&data, n), run::<Sorted>(&data, n));
+    assert!(here == rust && here.1.len() == n, "the lists that are timed differ, of {n} candidates");
+}
+
+fn bench_candidates(rng: &mut Rng) {
+    println!("a list of candidates; in Rust a vector that is kept sorted");
+    for n in [63, 32, 8] {
+        assert_same_lists(rng, n);
+        let (a, b) = least(rng, draw, |d| arrive_and_depart::<Candidates>(d, n), |d| arrive_and_depart::<Sorted>(d, n));
+        line(&format!("{n} candidates, an arrival and a departure"), a, b);
+    }
+    for (number, below) in [(9, true), (12, false)] {
+        let (a, b) = least(rng, draw, |d| refused_arrival::<Candidates>(d, 63, below), |d| refused_arrival::<Sorted>(d, 63, below));
+        line(&format!("63 candidates, an arrival refused {number}"), a, b);
+    }
+}
+
 pub fn bench(seed: u64, functions: &[Function]) {
     let mut rng = Rng(seed);
     let (here, rust) = root_calls();
@@ -291,4 +369,5 @@ pub fn bench(seed: u64, functions: &[Function]) {
         }
     }
     bench_bounces(&mut rng);
+    bench_candidates(&mut rng);
 }

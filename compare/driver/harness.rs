@@ -36,7 +36,7 @@ pub struct Guarded<T> {
     after: [u64; 4],
 }
 
-pub const GUARD: u64 = 0xfff4_5a5a_a5a5_0000;
+pub const GUARD: u64 = 0xfff4_5a5a_a5a5_c33c;
 
 impl<T: Copy> Guarded<T> {
     pub fn new(held: T) -> Self {

@@ -3,7 +3,9 @@
 //!
 //! Bounces are the lists of path.rs, one by one on a path in memory (`rulvimba_bounce`) and then once more by
 //! surface, many to a call (`rulvimba_bounces`); and once more through path's thin form (`path_bounce_on`), which
-//! takes the same records. The other calls stand in the tables of numbers.rs and optics.rs.
+//! takes the same records. Lists of candidates stand in candidates.rs, the other calls in the tables of numbers.rs and
+//! optics.rs.
+use super::candidates;
 use super::harness::*;
 use super::inputs::{Rng, Slot};
 use super::lengths;
@@ -418,8 +420,8 @@ pub fn compare_starts(seed: u64, count: usize) -> usize {
 
 // ---- all of it
 
-/// `bounces` bounces through both calls on 95 entries, and a tenth as many on 471 and for each of the other calls;
-/// answers the number of differences.
+/// `bounces` bounces through both calls on 95 entries and as many calls on lists of candidates, and a tenth as many on 471
+/// entries and for each of the other calls; answers the number of differences.
 pub fn compare(seed: u64, bounces: usize) -> usize {
     let each = bounces / 10;
     let mut others = each;
@@ -430,11 +432,12 @@ pub fn compare(seed: u64, bounces: usize) -> usize {
     }
     differences += compare_starts(seed, each);
     differences += lengths::compare();
+    let (listed, of_lists) = candidates::compare(seed, bounces, each);
     let (run, of_bounces) = compare_bounces(seed, SAMPLES, bounces);
     let (run_fine, of_fine) = compare_bounces(seed, FINE_SAMPLES, each);
-    differences += of_bounces + of_fine;
+    differences += of_lists + of_bounces + of_fine;
     println!(
-        "compare: librulvimba: {run} bounces on 95 entries, {run_fine} on 471, {others} other calls, {differences} differences, seed {seed}"
+        "compare: librulvimba: {run} bounces on 95 entries, {run_fine} on 471, {listed} calls on lists of candidates, {others} other calls, {differences} differences, seed {seed}"
     );
     differences
 }

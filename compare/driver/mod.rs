@@ -2,10 +2,11 @@
 //!
 //! With no words, a million inputs for each function. A number: so many. --gate: fewer, for a gate.
 //! --seed N: other inputs. --library: the static library alone, ten million bounces or as many as a number says.
-//! --sample FOLDER: writes the Rust's answers. --bench: times. --rays [JOB]: the program `rays` in Rust.
+//! --sample FOLDER: writes answers of the Rust and of the second reading for the crates there. --bench: times. --rays [JOB]: the program `rays` in Rust.
 //! --bench-rays: times and memory of both programs.
 mod bench;
 mod bench_rays;
+mod candidates;
 #[macro_use]
 mod harness;
 mod inputs;
@@ -40,6 +41,7 @@ fn compare(seed: u64, count: usize) -> usize {
     }
     differences += lengths::compare();
     differences += library::compare_starts(seed, count);
+    differences += candidates::compare(seed, count, count).1;
     for (entries, bounces) in [(SAMPLES, count * 5), (FINE_SAMPLES, count)] {
         differences += library::compare_bounces(seed, entries, bounces).1;
         differences += library::compare_thin(seed, entries, bounces);
@@ -47,11 +49,16 @@ fn compare(seed: u64, count: usize) -> usize {
     differences + root::compare(seed, count.max(1_000_000))
 }
 
-/// Writes the sample of each crate to a folder.
+/// Writes the samples that programs replay, each to the data of its program, whose folder is in this one.
 fn sample(seed: u64, folder: &str) {
-    let files = [("numbers", numbers::sample(seed)), ("optics", optics::sample(seed)), ("path", path::sample(seed))];
+    let files = [
+        ("replay/data/numbers.hex", numbers::sample(seed)),
+        ("replay/data/optics.hex", optics::sample(seed)),
+        ("replay/data/path.hex", path::sample(seed)),
+        ("replay_candidates/data/candidates.hex", candidates::sample(seed)),
+    ];
     for (name, records) in files {
-        let file = format!("{folder}/{name}.hex");
+        let file = format!("{folder}/{name}");
         std::fs::write(&file, &records).unwrap();
         println!("compare: {} records in {file}", records.lines().count());
     }

@@ -1,6 +1,6 @@
 //! The library in Rust: the declarations of include/rulvimba.h, each behind a safe function. A slice goes
-//! over as its pointer and its length, a path as a `&mut Path`; the library asks nothing else of its
-//! caller but the processor's default float control.
+//! over as its pointer and its length, a path as a `&mut Path`, a list of candidates as its three fields; the
+//! library asks nothing else of its caller but the processor's default float control.
 
 #[repr(C)]
 #[derive(Clone, Copy, Debug, Default, PartialEq)]
@@ -115,6 +115,27 @@ pub struct BounceResult {
 pub const BOUNCE_IN: usize = 27;
 pub const BOUNCE_OUT: usize = 18;
 
+/// A candidate direction: the planner's id and its density.
+#[repr(C)]
+#[derive(Clone, Copy, Debug, Default, PartialEq)]
+pub struct Candidate {
+    pub id: u16,
+    pub density: f64,
+}
+
+/// How many candidates a list has room for.
+pub const CANDIDATES: usize = 64;
+
+/// The present candidates, greatest density first and equal ones in order of arrival: the first `count` places. What
+/// lies past them means nothing, and no call changes it but by an arrival that takes the place.
+#[repr(C)]
+#[derive(Clone, Copy, Debug, PartialEq)]
+pub struct Candidates {
+    pub count: usize,
+    pub ids: [u16; CANDIDATES],
+    pub densities: [f64; CANDIDATES],
+}
+
 mod c {
     use super::*;
     type P = *const f64;
@@ -141,6 +162,8 @@ mod c {
         pub fn rulvimba_density(
             surface: Surface, eta: P, n: usize, k: P, m: usize, wo: Vec3, wi: Vec3, reflection: bool, lambda: f64,
         ) -> Answer<f64>;
+        pub fn rulvimba_arrive_in(count: *mut usize, ids: *mut u16, densities: *mut f64, c: Candidate) -> u64;
+        pub fn rulvimba_depart_in(count: *mut usize, ids: *mut u16, densities: *mut f64, id: u16) -> u64;
     }
 }
 
@@ -204,4 +227,29 @@ pub fn refract(eta: f64, wo: Vec3, n: Vec3) -> DirectionResult {
 }
 pub fn density(surface: Surface, s: Spectra, wo: Vec3, wi: Vec3, reflection: bool, lambda: f64) -> Answer<f64> {
     with!(rulvimba_density, surface, s, wo, wi, reflection, lambda)
+}
+/// An arrival in a list whose fields stand anywhere: 0, or the number that it is refused by.
+pub fn arrive_in(count: &mut usize, ids: &mut [u16; CANDIDATES], densities: &mut [f64; CANDIDATES], c: Candidate) -> u64 {
+    unsafe { c::rulvimba_arrive_in(count, ids.as_mut_ptr(), densities.as_mut_ptr(), c) }
+}
+/// A departure likewise.
+pub fn depart_in(count: &mut usize, ids: &mut [u16; CANDIDATES], densities: &mut [f64; CANDIDATES], id: u16) -> u64 {
+    unsafe { c::rulvimba_depart_in(count, ids.as_mut_ptr(), densities.as_mut_ptr(), id) }
+}
+
+impl Candidates {
+    /// Nobody is present.
+    pub fn new() -> Self {
+        Self { count: 0, ids: [0; CANDIDATES], densities: [0.0; CANDIDATES] }
+    }
+    pub fn arrive(&mut self, c: Candidate) -> u64 {
+        arrive_in(&mut self.count, &mut self.ids, &mut self.densities, c)
+    }
+    pub fn depart(&mut self, id: u16) -> u64 {
+        depart_in(&mut self.count, &mut self.ids, &mut self.densities, id)
+    }
+    /// The candidates, brightest first. A count above the room, which no call gives, counts as all places.
+    pub fn iter(&self) -> impl Iterator<Item = Candidate> + '_ {
+        self.ids.iter().zip(&self.densities).take(self.count).map(|(id, density)| Candidate { id: *id, density: *density })
+    }
 }
