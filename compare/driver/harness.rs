@@ -36,6 +36,7 @@ pub struct Guarded<T> {
     after: [u64; 4],
 }
 
+/// No byte of it is 0, so that a zero of any width that is written over it shows.
 pub const GUARD: u64 = 0xfff4_5a5a_a5a5_c33c;
 
 impl<T: Copy> Guarded<T> {
