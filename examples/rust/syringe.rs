@@ -115,6 +115,35 @@ fn many(surface: Surface, s: Spectra) {
     println!("  room for two: {n} bounces, the first two as before: {same}, {kept} of 5 doubles past them kept");
 }
 
+fn print_list(what: &str, list: &Candidates) {
+    let entries: String = list.iter().map(|c| format!(" {} ({:.6})", c.id, c.density)).collect();
+    println!("{what}:{entries}");
+}
+
+/// The directions into which a surface sends most of the light from wo, brightest first; two lie as far to either side, so
+/// that they stand as they arrived. A shutter covers the first: it is withdrawn.
+fn brightest(surface: Surface, s: Spectra, wo: Vec3) {
+    let directions = [
+        (10, v(0.0, -0.28, 0.96)),
+        (20, v(0.0, -0.6, 0.8)),
+        (30, v(0.0, -0.8, 0.6)),
+        (40, v(0.36, -0.48, 0.8)),
+        (50, v(-0.36, -0.48, 0.8)),
+    ];
+    let mut list = Candidates::new();
+    for (id, wi) in directions {
+        let f = density(surface, s, wo, wi, true, 530.0);
+        if f.number == 0 {
+            list.arrive(Candidate { id, density: f.value });
+        }
+    }
+    print_list("brightest", &list);
+    print!("  20 again: {}", list.arrive(Candidate { id: 20, density: 1.0 }));
+    print!(", a density below 0: {}", list.arrive(Candidate { id: 60, density: -1.0 }));
+    println!(", 20 is withdrawn: {} and again: {}", list.depart(20), list.depart(20));
+    print_list("without it", &list);
+}
+
 fn main() {
     let table_of = |entries: usize, f: fn(f64) -> f64| -> Vec<f64> { (0..entries).map(|i| f(i as f64)).collect() };
     let table = |f: fn(f64) -> f64| table_of(SAMPLES, f);
@@ -193,6 +222,7 @@ fn main() {
     println!("a kind of 2: {}", check_surface(Surface { kind: 2, ..steel }, of_steel));
     println!("steel as glass: {}", make_surface(GLASS, 0.3, of_steel).number);
 
+    brightest(steel, of_steel, w);
     many(rough_glass, of_glass);
     many(steel, of_steel);
 }
