@@ -1,8 +1,8 @@
 -- Laws of a search (`firstWhere`), of one put in (`insertAt`) and one taken out (`removeAt`), and of the loops that compute them, over any type of entries. By induction on the list.
-use Prim.Native.Nat.{ℕ, zero, suc, _+_, _-_, _≤_, _<_}
+use Prim.Native.Nat.{ℕ, zero, suc, _+_, _≤_, _<_}
 use native.Mathlib.Numerals.{add-one}
 use native.Mathlib.Omega.{arith}
-use mathlib.Core.Path.{_≡_, refl, sym, ap, _∙_}
+use mathlib.Core.Path.{_≡_, refl, ap, _∙_}
 use mathlib.Core.Bool.{Bool, true, false, cond}
 use mathlib.Core.List.{List, [], _∷_, _++_, map}
 use lib.ListN.{length, take, drop, getD, set, length-take, length-set, drop-of-length-le}
@@ -206,18 +206,18 @@ module _ {A : Type 0} (d : A) where
   remove-later (suc at) zero (y ∷ s) h k = absurd (omega arith)
   remove-later (suc at) (suc i) (y ∷ s) h k = remove-later at i s (omega arith) (omega arith)
 
-  -- its loop at i: what it holds; the last place to be written is behind n
+  -- its loop through the first n, at i: what it holds
   pub record Taking (at n : ℕ) (s out : List A) (i : ℕ) : Type 0 where
     pub from : at ≤ i
-    pub to : i ≤ n
-    pub size : n < length s
+    pub to : i < n
+    pub size : n ≤ length s
     pub long : length out ≡ length s
     pub holds : out ≡ mixed (removeAt at s) s i
 
-  pub taking-starts : (at n : ℕ) (s : List A) → at ≤ n → n < length s → Taking at n s s at
+  pub taking-starts : (at n : ℕ) (s : List A) → at < n → n ≤ length s → Taking at n s s at
   taking-starts at n s h k = record { from = omega arith; to = h; size = k; long = refl; holds = remove-start at s (omega arith) }
 
-  pub taking-next : (at n : ℕ) (s out : List A) (i : ℕ) → Taking at n s out i → i < n → Taking at n s (set out i (getD out (i + 1) d)) (i + 1)
+  pub taking-next : (at n : ℕ) (s out : List A) (i : ℕ) → Taking at n s out i → i + 1 < n → Taking at n s (set out i (getD out (i + 1) d)) (i + 1)
   taking-next at n s out i l h =
       let t = removeAt at s in
       let z = l .size in
@@ -232,12 +232,12 @@ module _ {A : Type 0} (d : A) where
         holds = rw (l .holds, add-one, g) (mixed-set t s i (omega arith) (omega arith));
       }
 
-  pub taking-ends : (at n : ℕ) (s out : List A) (i : ℕ) → at ≤ n → Taking at n s out i → n ≤ i → out ≡ over (removeAt at (take (suc n) s)) s
+  pub taking-ends : (at n : ℕ) (s out : List A) (i : ℕ) → Taking at n s out i → n ≤ i + 1 → out ≡ over (removeAt at (take n s)) s
   unfolding mixed over
-  taking-ends at n s out i a l h =
+  taking-ends at n s out i l h =
       let z = l .size in
-      let m = length-take (suc n) s in
-      let k = length-remove at (take (suc n) s) (omega arith) in
-      let e : i ≡ length (removeAt at (take (suc n) s)) = omega arith in
-      let f : i ≡ n = omega arith in
-      l .holds ∙ rw (← e, f, remove-front at n s a z)
+      let m = length-take n s in
+      let k = length-remove at (take n s) (omega arith) in
+      let e : i ≡ length (removeAt at (take n s)) = omega arith in
+      let f : n ≡ suc i = omega arith in
+      l .holds ∙ rw (← e, f, remove-front at i s (l .from) (omega arith))

@@ -1,7 +1,7 @@
 -- Laws of a list in memory: the columns of `rows`, one row and the first rows of them, and that memory holds the list that `holding` puts there. By induction on the columns.
 use Prim.Native.Nat.{ℕ, zero, suc, _≤_, _<_}
 use native.Mathlib.Omega.{arith}
-use mathlib.Core.{Path._≡_, Path.refl, Path.sym, Path.ap, Path._∙_, List.List, List.[], List._∷_, List._++_, List.map}
+use mathlib.Core.{Path._≡_, Path.refl, Path.sym, Path.ap, Path._∙_, List.List, List.[], List._∷_, List.map}
 use lib.ListN.{length, take, drop, getD, length-append, length-map, length-drop}
 use lib.Seq.{take-append-seam}
 use lib.Ieee.{Float, nan}

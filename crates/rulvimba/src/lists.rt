@@ -2,7 +2,6 @@
 use crate::records;
 use candidates::candidate::Candidate;
 use candidates::list;
-ghost use mathlib.Core.Path.{_≡_};
 ghost use Rattle.candidates.specs.Memory.{memory, arrival, departure};
 ghost use Rattle.rulvimba.specs.Lists.{ListCall};
 

@@ -4,7 +4,7 @@ use mathlib.Core.Bool.{Bool, true, false, _||_}
 use mathlib.Core.Logic.{inl, inr}
 use Prim.Native.Nat.{ℕ, _+_, _*_}
 use native.Mathlib.Omega.{arith}
-use lib.Dec.{T, ltb, ltb→lt, lt→ltb}
+use lib.Dec.{T, ltb→lt, lt→ltb}
 use lib.Ieee.{Float, fin, binary64, fits, lt, le, eq, below, up, down}
 use Rattle.floats.specs.Float.{isFinite}
 use Rattle.floats.proofs.Rounding.{below-or-from}

@@ -1,6 +1,6 @@
 -- `candidates::list::check_arrival` meets its contract: the definition, check by check; that an id is not among the first n is that its place is n (`not-among`).
 use native.Mathlib.Omega.{arith}
-use mathlib.Core.Path.{_≡_, sym}
+use mathlib.Core.Path.{_≡_}
 use borrow.Author.Needs.{needs}
 use lib.ListN.{length, take, length-take}
 use Rattle.numbers.specs.Refusal.{number}

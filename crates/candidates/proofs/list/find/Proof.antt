@@ -1,10 +1,8 @@
 -- `candidates::list::find` meets its contract: none of the ids passed is the one looked for (`Searching`).
 use Prim.Native.Nat.{_-_}
 use native.Mathlib.Omega.{arith}
-use mathlib.Core.Path.{_∙_}
 use borrow.Author.Needs.{needs}
 use borrow.Author.Tests.{eq-eqb, ne-eqb}
-use lib.ListN.{take}
 use Rattle.candidates.specs.Memory.{isId}
 use Rattle.candidates.proofs.Lists.{Searching, searching-starts, searching-next, searching-found, searching-ends}
 use Rattle.candidates.proofs.list.find.Statement.{statement}
