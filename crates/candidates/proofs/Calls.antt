@@ -1,5 +1,5 @@
 -- What the stages of a call give is what its definition says, as laws of plain values: what is put in or taken out of every column at one place is put in or taken out of the list (`insert-columns`, `remove-columns`),
--- and memory then holds the list that the call leaves (`arrived`, `departed`).
+-- and memory then holds the list that the call leaves (`arrival-leaves`, `departure-leaves`).
 use Prim.Native.Nat.{ℕ, suc, _+_, _-_, _≤_, _<_, min}
 use native.Mathlib.Omega.{arith}
 use mathlib.Core.Path.{_≡_, refl, sym, ap, _∙_}
@@ -12,12 +12,12 @@ use lib.Ieee.{Float}
 use Rattle.floats.proofs.Rounding.{below-or-from}
 use Rattle.numbers.specs.Refusal.{accepted, rejected, refuse}
 use Rattle.candidates.specs.Lists.{firstWhere, insertAt, removeAt, over}
-use Rattle.candidates.specs.Candidate.{Candidate, goesBefore, hasId}
-use Rattle.candidates.specs.Memory.{Memory, memory, rows, listed, idsOver, densitiesOver, holding, Call, arrival, departure, isId, check, insert, remove, changed, answer, unlessRefused, left, Written}
+use Rattle.candidates.specs.Candidate.{Candidate, goesBefore, isId, hasId}
+use Rattle.candidates.specs.Memory.{Memory, memory, rows, Sized, listed, columnOver, holding, Call, arrival, departure, check, insert, remove, changed, answer, unlessRefused, left, Written}
 use Rattle.candidates.proofs.Lists.{length-insert, length-remove, map-insert, map-remove, first-map}
 use Rattle.candidates.proofs.Ids.{among-found, among-missed}
 use Rattle.candidates.proofs.Passed.{passed}
-use Rattle.candidates.proofs.Rows.{Sized, ids-of-rows, densities-of-rows, length-rows, take-map}
+use Rattle.candidates.proofs.Rows.{ids-of-rows, densities-of-rows, length-rows, take-map}
 
 -- ---- the definitions by places
 insert-is : (c : Candidate) (cs : List Candidate) → insert c cs ≡ insertAt (firstWhere (goesBefore c) cs) c cs
@@ -42,7 +42,7 @@ remove-is id (d ∷ cs) = go (hasId id d) (remove-is id cs)
 
 -- a search for an id goes through the ids
 by-id : (id : ℕ) (cs : List Candidate) → firstWhere (isId id) (map (λ c. c .id) cs) ≡ firstWhere (hasId id) cs
-unfolding isId hasId
+unfolding hasId
 by-id id cs = first-map (isId id) (λ c. c .id) cs
 
 -- ---- the columns
@@ -124,20 +124,20 @@ module _ (m : Memory) (s : Sized m) (n : ℕ) (is : n ≡ min (m .count) 64) whe
   length-n : length (take n all) ≡ n
   length-n = let a = length-take n all in let b = length-all in omega arith
 
-  pub arrived : (c : Candidate) → accepted ≡ answer m (arrival c)
-      → let cs = insert c (take n all) in memory (n + 1) (idsOver cs (m .ids)) (densitiesOver cs (m .densities)) ≡ left m (arrival c)
+  pub arrival-leaves : (c : Candidate) → accepted ≡ answer m (arrival c)
+      → let cs = insert c (take n all) in memory (n + 1) (columnOver (λ c. c .id) cs (m .ids)) (columnOver (λ c. c .density) cs (m .densities)) ≡ left m (arrival c)
   unfolding holding changed
-  arrived c ok =
+  arrival-leaves c ok =
       let at = firstWhere (goesBefore c) (take n all) in
       let l = length-insert at c (take n all) in
       let k = ap length (insert-is c (take n all)) in
       let h : n + 1 ≡ length (insert c (take n all)) = let a = length-n in omega arith in
       rw (← accepted-leaves m (arrival c) ok, listed-n, h)
 
-  pub departed : (id at : ℕ) → at ≡ firstWhere (isId id) (take n (m .ids)) → at < n → accepted ≡ answer m (departure id)
-      → let cs = removeAt at (take n all) in memory (n - 1) (idsOver cs (m .ids)) (densitiesOver cs (m .densities)) ≡ left m (departure id)
+  pub departure-leaves : (id at : ℕ) → at ≡ firstWhere (isId id) (take n (m .ids)) → at < n → accepted ≡ answer m (departure id)
+      → let cs = removeAt at (take n all) in memory (n - 1) (columnOver (λ c. c .id) cs (m .ids)) (columnOver (λ c. c .density) cs (m .densities)) ≡ left m (departure id)
   unfolding holding changed
-  departed id at e r ok =
+  departure-leaves id at e r ok =
       let f : at ≡ firstWhere (hasId id) (take n all) =
       e ∙ ap (firstWhere (isId id)) (sym (ids-of (m .ids) (m .densities) n (s .ids ∙ sym (s .densities)))) ∙ by-id id (take n all) in
       let k = length-n in

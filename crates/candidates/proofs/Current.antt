@@ -7,10 +7,10 @@ use mathlib.Core.List.{List, [], _∷_, map, map-map, List·Permᴰ, List·Perm�
 use lib.ListN.{length, length-map}
 use Rattle.numbers.specs.Refusal.{Verdict, accepted, rejected}
 use Rattle.candidates.specs.Candidate.{Candidate, CandidateF64}
-use Rattle.candidates.specs.Memory.{Memory, listed, holding, Call, arrival, departure, insert, remove, changed}
+use Rattle.candidates.specs.Memory.{Memory, Sized, listed, holding, Call, arrival, departure, insert, remove, changed}
 use Rattle.candidates.specs.Memory.{answer, unlessRefused, left}
 use Rattle.candidates.specs.Current.{Present, settle, others, accept, after, Every, Pairwise, Current, CallF64, Throughout, Empty, KeptCurrent}
-use Rattle.candidates.proofs.Rows.{listed-ids, Sized, listed-holding, sized-holding}
+use Rattle.candidates.proofs.Rows.{listed-ids, listed-laid, listed-holding, count-holding, sized-holding}
 use Rattle.candidates.proofs.Passed.{passed}
 use Rattle.candidates.proofs.Order.{ready}
 use Rattle.candidates.proofs.Sorted.{every-both, length-perm, every-perm, pairwise-perm, length-part, every-part, pairwise-part, pairwise-map}
@@ -33,16 +33,8 @@ module _ (n : ℕ) (cs : List Candidate) (ps : List Present) (g : Good n cs ps) 
   same-ids : List·Permᴰ (map (λ c. c .id) cs) (ids ps)
   same-ids = rw (← g .listed, map-map) (Permᴰ·map (λ p. p .candidate .id) (g .present))
 
-  current : Current cs ps
-  current =
-      record {
-        order = g .order;
-        present = g .present;
-        sorted = g .sorted;
-        listed = g .listed;
-        once = rw (← g .listed) (pairwise-map (λ a b. a .id ≡ b .id → ⊥) (λ p. p .candidate) (g .order) order-unlike);
-        room = let m = length-map cs (λ c. c .id) in let l = length-perm same-ids in let h = g .room in omega arith;
-      }
+  fits : length (g .order) ≤ 64
+  fits = let l = length-perm (g .present) in let m = length-map ps (λ p. p .candidate .id) in let h = g .room in omega arith
 
   -- one call later
   known-on : Every (Known (suc n)) ps
@@ -107,13 +99,28 @@ module _ (n : ℕ) (cs : List Candidate) (ps : List Present) (g : Good n cs ps) 
 -- ---- the same in memory
 record Held (n : ℕ) (m : Memory) (ps : List Present) : Type 0 where
   sized : Sized m
+  counted : m .count ≡ length (listed m)
   good : Good n (listed m) ps
+
+module _ (n : ℕ) (m : Memory) (ps : List Present) (h : Held n m ps) where
+  as-long : length (m .ids) ≡ length (m .densities)
+  as-long = h .sized .ids ∙ sym (h .sized .densities)
+
+  current : Current m ps
+  current =
+      record {
+        order = h .good .order;
+        present = h .good .present;
+        sorted = h .good .sorted;
+        laid = rw (h .good .listed) (listed-laid m as-long (h .counted));
+        once = order-unlike n (listed m) ps (h .good);
+        room = fits n (listed m) ps (h .good);
+      }
 
 module _ (n : ℕ) (m : Memory) (ps : List Present) (h : Held n m ps) (call : Call) where
   answered : answer m call ≡ settle ps call
   unfolding answer settle
-  answered =
-      rw (← listed-ids m (h .sized .ids ∙ sym (h .sized .densities))) (check-perm (same-ids n (listed m) ps (h .good)) call)
+  answered = rw (← listed-ids m (as-long n m ps h)) (check-perm (same-ids n (listed m) ps (h .good)) call)
 
   called : CallF64 call → Held (suc n) (left m call) (after n ps call)
   unfolding left after unlessRefused
@@ -124,27 +131,32 @@ module _ (n : ℕ) (m : Memory) (ps : List Present) (h : Held n m ps) (call : Ca
       go accepted e =
           let cs = changed call (listed m) in
           let g = accepted-call n (listed m) ps (h .good) call f e in
+          let l = ap length (g .listed) in
+          let k = length-map (g .order) (λ p. p .candidate) in
+          let r = fits (suc n) cs (accept n call ps) g in
           record {
-            sized = sized-holding m cs (h .sized) (current (suc n) cs (accept n call ps) g .room);
+            sized = sized-holding m cs (h .sized) (omega arith);
+            counted = count-holding m cs;
             good = rw (listed-holding m cs) g;
           }
-      go (rejected k) e = record { sized = h .sized; good = kept n (listed m) ps (h .good) }
+      go (rejected k) e = record { sized = h .sized; counted = h .counted; good = kept n (listed m) ps (h .good) }
 
 -- ---- every list of calls
 throughout : (n : ℕ) (m : Memory) (ps : List Present) → Held n m ps → (calls : List Call) → Every CallF64 calls → Throughout n ps m calls
 unfolding Every Throughout
 throughout n m ps h [] f = tt
 throughout n m ps h (call ∷ calls) f =
-    let m' = left m call in
+    λ v m' c.
     let ps' = after n ps call in
-    let h' = called n m ps h call (f .0) in
-    (answered n m ps h call, current (suc n) (listed m') ps' (h' .good), throughout (suc n) m' ps' h' calls (f .1))
+    let h' : Held (suc n) m' ps' = rw (c .1) (called n m ps h call (f .0)) in
+    (c .0 ∙ answered n m ps h call, current (suc n) m' ps' h', throughout (suc n) m' ps' h' calls (f .1))
 
 started : (m : Memory) → Empty m → Held 0 m []
 unfolding listed Every Pairwise
 started m e =
     record {
-      sized = record { ids = e .ids; densities = e .densities };
+      sized = e .sized;
+      counted = rw (e .count);
       good =
           record {
             known = tt;

@@ -9,7 +9,8 @@ use borrow.Author.Tests.{le-leb, lt-leb}
 use lib.Dec.{leb}
 use lib.ListN.{length}
 use Rattle.candidates.specs.Lists.{firstWhere}
-use Rattle.candidates.specs.Memory.{isId, isAmong}
+use Rattle.candidates.specs.Candidate.{isId}
+use Rattle.candidates.specs.Memory.{isAmong}
 
 module _ (id : ℕ) where
   -- what a search through the ids tells

@@ -33,21 +33,21 @@ module _ {A : Type 0} (p : A → Bool) where
   searching-starts n xs h = record { to = omega arith; size = h; passed = omega arith }
 
   -- what the loop looks at
-  looked-at : (n : ℕ) (xs : List A) (d : A) (i : ℕ) → Searching n xs i → i < n → (b : Bool) → p (getD xs i d) ≡ b
+  searched : (n : ℕ) (xs : List A) (d : A) (i : ℕ) → Searching n xs i → i < n → (b : Bool) → p (getD xs i d) ≡ b
       → firstWhere p (drop i (take n xs)) ≡ cond b 0 (suc (firstWhere p (drop (suc i) (take n xs))))
   unfolding firstWhere
-  looked-at n xs d i l h b t =
+  searched n xs d i l h b t =
       let z = l .size in
       let m = length-take n xs in
       let k : i < length (take n xs) = omega arith in
       rw (drop-cons (take n xs) i d k, getD-take n xs i d h, t)
 
   pub searching-found : (n : ℕ) (xs : List A) (d : A) (i : ℕ) → Searching n xs i → i < n → p (getD xs i d) ≡ true → i ≡ firstWhere p (take n xs)
-  searching-found n xs d i l h t = let z = looked-at n xs d i l h true t in let e = l .passed in omega arith
+  searching-found n xs d i l h t = let z = searched n xs d i l h true t in let e = l .passed in omega arith
 
   pub searching-next : (n : ℕ) (xs : List A) (d : A) (i : ℕ) → Searching n xs i → i < n → p (getD xs i d) ≡ false → Searching n xs (i + 1)
   searching-next n xs d i l h t =
-      let z = looked-at n xs d i l h false t in
+      let z = searched n xs d i l h false t in
       let e = l .passed in
       record { to = omega arith; size = l .size; passed = rw add-one (omega arith) }
 

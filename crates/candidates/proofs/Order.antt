@@ -1,12 +1,12 @@
 -- `goesBefore` on accepted candidates: two never go before each other (`asym`), and where a goes before b and c doesn't,
--- a goes before c (`step`). By the order of finite values.
+-- a goes before c (`cotrans`). By the order of finite values.
 -- The proof of the statement over every list of calls uses these two laws of `goesBefore` and nothing else.
 use mathlib.Core.Path.{_≡_}
 use lib.Dec.{T}
 use lib.Ieee.{le}
 use lib.Ieee.Fits.{and-l}
 use Rattle.floats.specs.Float.{f0, isFinite}
-use Rattle.floats.proofs.Rounding.Order.{Finite, lt-asym, lt-step}
+use Rattle.floats.proofs.Rounding.Order.{Finite, lt-asym, lt-cotrans}
 use Rattle.numbers.specs.Refusal.{accepted}
 use Rattle.numbers.proofs.refusal.Checks.{test-passed}
 use Rattle.candidates.specs.Candidate.{Candidate, isDensity, checkCandidate, goesBefore, CandidateF64}
@@ -30,6 +30,6 @@ pub asym : (a b : Candidate) → Ready a → Ready b → T (goesBefore a b) → 
 unfolding goesBefore
 asym a b f g = lt-asym (b .density) (a .density) (g .density) (f .density)
 
-pub step : (a b c : Candidate) → Ready a → Ready b → Ready c → T (goesBefore a b) → (T (goesBefore c b) → ⊥) → T (goesBefore a c)
+pub cotrans : (a b c : Candidate) → Ready a → Ready b → Ready c → T (goesBefore a b) → (T (goesBefore c b) → ⊥) → T (goesBefore a c)
 unfolding goesBefore
-step a b c f g h = lt-step (a .density) (b .density) (c .density) (f .density) (g .density) (h .density)
+cotrans a b c f g h = lt-cotrans (a .density) (b .density) (c .density) (f .density) (g .density) (h .density)

@@ -1,5 +1,5 @@
 -- What an accepted call makes of who is present and of their order: an arrival is put in where `insert` puts it (`put-in`),
--- a departure takes out what `remove` takes out (`taken-out`). By induction on the order. Of `goesBefore` only `asym` and `step` are used.
+-- a departure takes out what `remove` takes out (`taken-out`). By induction on the order. Of `goesBefore` only `asym` and `cotrans` are used.
 use Prim.Native.Nat.{ℕ, _<_}
 use mathlib.Core.Path.{_≡_, refl, sym, ap, _∙_}
 use mathlib.Core.Bool.{Bool, true, false, not, _&&_, _||_, cond, or-assoc, or-comm}
@@ -8,10 +8,10 @@ use mathlib.Core.List.{List, [], _∷_, map, filter, Sublistᴰ, filter-sublist�
 use mathlib.Core.List.{List·Permᴰ, List·Permᴰ·nil, List·Permᴰ·cons, List·Permᴰ·swap, List·Permᴰ·trans, Permᴰ·refl, Permᴰ·symm, Permᴰ·filter}
 use lib.Dec.{T, eqb, ltb, eqb→eq, eqb-refl, lt→ltb}
 use Rattle.floats.proofs.Rounding.Units.{either}
-use Rattle.candidates.specs.Candidate.{Candidate, goesBefore, hasId}
-use Rattle.candidates.specs.Memory.{Call, arrival, departure, isId, isAmong, check, insert, remove}
+use Rattle.candidates.specs.Candidate.{isId, Candidate, goesBefore, hasId}
+use Rattle.candidates.specs.Memory.{Call, arrival, departure, isAmong, check, insert, remove}
 use Rattle.candidates.specs.Current.{Present, others, before, Every, Pairwise}
-use Rattle.candidates.proofs.Order.{Ready, asym, step}
+use Rattle.candidates.proofs.Order.{Ready, asym, cotrans}
 use Rattle.candidates.proofs.Sorted.{every-both, length-perm, every-perm}
 
 abbrev pub candidates : List Present → List Candidate
@@ -88,7 +88,7 @@ module _ (c : Candidate) (n : ℕ) (r : Ready c) where
   ahead-on y z k t l b =
       let g = goesBefore (y .candidate) (z .candidate) in
       let h = goesBefore (z .candidate) (y .candidate) in
-      ahead z (step c (y .candidate) (z .candidate) r (k .ready) (l .ready) t
+      ahead z (cotrans c (y .candidate) (z .candidate) r (k .ready) (l .ready) t
       (not-ahead g h (ltb (y .call) (z .call)) b (asym (y .candidate) (z .candidate) (k .ready) (l .ready))))
 
   -- the order ys with the new one put in
@@ -151,7 +151,7 @@ module _ (id : ℕ) where
 
   -- all the others stay, where one besides them has the id
   all-others : (p : Present) (ps : List Present) → T (hasId id (p .candidate)) → Every (Unlike p) ps → others id ps ≡ ps
-  unfolding Every others hasId
+  unfolding Every others hasId isId
   all-others p [] h u = refl
   all-others p (q ∷ qs) h u = go (eqb (q .candidate .id) id) refl (all-others p qs h (u .1))
     where

@@ -7,7 +7,7 @@ use lib.Seq.{take-append-seam}
 use lib.Ieee.{Float, nan}
 use Rattle.candidates.specs.Lists.{over}
 use Rattle.candidates.specs.Candidate.{Candidate}
-use Rattle.candidates.specs.Memory.{Memory, rows, listed, listedIds, holding}
+use Rattle.candidates.specs.Memory.{Memory, Sized, Laid, rows, listed, listedIds, holding}
 
 -- ---- the columns of the rows
 pub ids-of-rows : (ids : List ℕ) (ds : List Float) → length ids ≡ length ds → map (λ c. c .id) (rows ids ds) ≡ ids
@@ -52,11 +52,22 @@ take-map f zero xs = refl
 take-map f (suc k) [] = refl
 take-map {B} f (suc k) (x ∷ xs) = ap (λ (l : List B). f x ∷ l) (take-map f k xs)
 
-pub listed-ids : (m : Memory) → length (m .ids) ≡ length (m .densities) → map (λ c. c .id) (listed m) ≡ listedIds m
-unfolding listed listedIds
-listed-ids m e =
-    take-map (λ c. c .id) (m .count) (rows (m .ids) (m .densities))
-    ∙ ap (take (m .count)) (ids-of-rows (m .ids) (m .densities) e)
+module _ (m : Memory) (e : length (m .ids) ≡ length (m .densities)) where
+  pub listed-ids : map (λ c. c .id) (listed m) ≡ listedIds m
+  unfolding listed listedIds
+  listed-ids =
+      take-map (λ c. c .id) (m .count) (rows (m .ids) (m .densities)) ∙ ap (take (m .count)) (ids-of-rows (m .ids) (m .densities) e)
+
+  -- a list as long as its count is laid out in its places
+  pub listed-laid : m .count ≡ length (listed m) → Laid (listed m) m
+  unfolding listed listedIds
+  listed-laid c =
+      record {
+        count = c;
+        ids = sym listed-ids;
+        densities =
+            sym (take-map (λ c. c .density) (m .count) (rows (m .ids) (m .densities)) ∙ ap (take (m .count)) (densities-of-rows (m .ids) (m .densities) e));
+      }
 
 length-over : {A : Type 0} (xs before : List A) → length xs ≤ length before → length (over xs before) ≡ length before
 unfolding over
@@ -69,17 +80,16 @@ front f cs before =
     ap (λ (k : ℕ). take k (over (map f cs) before)) (sym (length-map cs f))
     ∙ take-append-seam (map f cs) (drop (length (map f cs)) before)
 
--- memory that has 64 places
-pub record Sized (m : Memory) : Type 0 where
-  pub ids : length (m .ids) ≡ 64
-  pub densities : length (m .densities) ≡ 64
-
 module _ (m : Memory) (cs : List Candidate) where
   pub listed-holding : listed (holding m cs) ≡ cs
   unfolding listed holding
   listed-holding =
       take-rows (length cs) (over (map (λ c. c .id) cs) (m .ids)) (over (map (λ c. c .density) cs) (m .densities))
       ∙ rw (front (λ c. c .id) cs (m .ids), front (λ c. c .density) cs (m .densities)) (rows-of cs)
+
+  pub count-holding : holding m cs .count ≡ length (listed (holding m cs))
+  unfolding holding
+  count-holding = ap length (sym listed-holding)
 
   pub sized-holding : Sized m → length cs ≤ 64 → Sized (holding m cs)
   unfolding holding

@@ -18,8 +18,11 @@ checkCandidate c = refuse 9 (isDensity (c .density))
 unfoldable pub goesBefore : Candidate → Candidate → Bool
 goesBefore a b = lt (b .density) (a .density)
 
+unfoldable pub isId : ℕ → ℕ → Bool
+isId id x = eqb x id
+
 unfoldable pub hasId : ℕ → Candidate → Bool
-hasId id c = eqb (c .id) id
+hasId id c = isId id (c .id)
 
 -- its numbers are values of binary64: every f64 is
 unfoldable pub CandidateF64 : Candidate → Type 0

@@ -6,7 +6,7 @@ use lib.Dec.{T, ltb}
 use lib.ListN.{length}
 use Rattle.numbers.specs.Refusal.{Verdict}
 use Rattle.candidates.specs.Candidate.{Candidate, goesBefore, hasId, CandidateF64}
-use Rattle.candidates.specs.Memory.{Memory, listed, Call, arrival, departure, check, answer, unlessRefused, left}
+use Rattle.candidates.specs.Memory.{Memory, Sized, Laid, Call, arrival, departure, check, unlessRefused, Called}
 
 -- ---- who is present
 -- a present candidate, with the number of the call that it arrived by
@@ -46,34 +46,32 @@ unfoldable pub Pairwise : {A : Type 0} → (A → A → Type 0) → List A → T
 Pairwise R [] = Unit
 Pairwise R (x ∷ xs) = Every (R x) xs × Pairwise R xs
 
--- cs is exactly the present candidates, each a single time, in the order
-pub record Current (cs : List Candidate) (ps : List Present) : Type 0 where
+-- memory has exactly the present candidates, each a single time, in the order
+pub record Current (m : Memory) (ps : List Present) : Type 0 where
   pub order : List Present
   pub present : List·Permᴰ order ps
   pub sorted : Pairwise (λ a b. T (before a b)) order
-  pub listed : map (λ p. p .candidate) order ≡ cs
+  pub laid : Laid (map (λ p. p .candidate) order) m
   -- and so no id stands twice, and there are 64 at the most
-  pub once : Pairwise (λ a b. a .id ≡ b .id → ⊥) cs
-  pub room : length cs ≤ 64
+  pub once : Pairwise (λ a b. a .candidate .id ≡ b .candidate .id → ⊥) order
+  pub room : length order ≤ 64
 
--- ---- a list of calls, by what the contracts of the two calls say that each answers and leaves in memory
+-- ---- a list of calls
 unfoldable pub CallF64 : Call → Type 0
 CallF64 (arrival c) = CandidateF64 c
 CallF64 (departure id) = Unit
 
--- after every call of it, where n calls were made before, ps is who was present then and m what memory held
+-- after every call of it, where n calls were made before, ps is who was present then and m what memory held: v is what the call answers and m' what it leaves, by its contract
 unfoldable pub Throughout : ℕ → List Present → Memory → List Call → Type 0
 Throughout n ps m [] = Unit
 Throughout n ps m (call ∷ calls) =
-    (answer m call ≡ settle ps call)
-    × Current (listed (left m call)) (after n ps call)
-    × Throughout (suc n) (after n ps call) (left m call) calls
+    (v : Verdict) (m' : Memory) → Called m call v m'
+    → (v ≡ settle ps call) × Current m' (after n ps call) × Throughout (suc n) (after n ps call) m' calls
 
 -- memory with 64 places and a count of 0, whatever the places hold
 pub record Empty (m : Memory) : Type 0 where
+  pub sized : Sized m
   pub count : m .count ≡ 0
-  pub ids : length (m .ids) ≡ 64
-  pub densities : length (m .densities) ≡ 64
 
 unfoldable pub KeptCurrent : Type 0
 KeptCurrent = (m : Memory) → Empty m → (calls : List Call) → Every CallF64 calls → Throughout 0 [] m calls

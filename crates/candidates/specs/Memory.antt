@@ -2,12 +2,12 @@
 -- What a list holds after calls that began with an empty one is said in Current.antt.
 use Prim.Native.Nat.{ℕ}
 use mathlib.Core.{Path._≡_, Bool.Bool, Bool.false, Bool.not, Bool._||_, Bool.cond, List.List, List.[], List._∷_, List.map}
-use lib.Dec.{eqb, ltb}
+use lib.Dec.{ltb}
 use lib.ListN.{length, take}
 use lib.Ieee.{Float}
 use Rattle.numbers.specs.Refusal.{Verdict, accepted, rejected, refuse, _then_}
 use Rattle.candidates.specs.Lists.{over}
-use Rattle.candidates.specs.Candidate.{Candidate, checkCandidate, goesBefore, hasId}
+use Rattle.candidates.specs.Candidate.{Candidate, checkCandidate, goesBefore, isId, hasId}
 
 -- ---- a list in memory: how many candidates it has, and places for the ids and the densities
 pub record Memory : Type 0 where
@@ -18,6 +18,18 @@ pub record Memory : Type 0 where
 abbrev pub memory : ℕ → List ℕ → List Float → Memory
 memory count ids densities = record { count = count; ids = ids; densities = densities }
 
+-- it has 64 places
+pub record Sized (m : Memory) : Type 0 where
+  pub ids : length (m .ids) ≡ 64
+  pub densities : length (m .densities) ≡ 64
+
+-- it has exactly these candidates, each in its place
+pub record Laid (cs : List Candidate) (m : Memory) : Type 0 where
+  pub count : m .count ≡ length cs
+  pub ids : take (m .count) (m .ids) ≡ map (λ c. c .id) cs
+  pub densities : take (m .count) (m .densities) ≡ map (λ c. c .density) cs
+
+-- ---- what a call finds there, which may be anything
 -- the candidate at each place
 unfoldable pub rows : List ℕ → List Float → List Candidate
 rows [] densities = []
@@ -31,24 +43,18 @@ listed m = take (m .count) (rows (m .ids) (m .densities))
 unfoldable pub listedIds : Memory → List ℕ
 listedIds m = take (m .count) (m .ids)
 
--- the columns of a list written over those of before: places past the list are as they were
-abbrev pub idsOver : List Candidate → List ℕ → List ℕ
-idsOver cs ids = over (map (λ c. c .id) cs) ids
+-- ---- what a call leaves there
+-- a column of a list written over the column of before: places past the list are as they were
+abbrev pub columnOver : {A : Type 0} → (Candidate → A) → List Candidate → List A → List A
+columnOver field cs before = over (map field cs) before
 
-abbrev pub densitiesOver : List Candidate → List Float → List Float
-densitiesOver cs densities = over (map (λ c. c .density) cs) densities
-
--- memory once it holds another list
 unfoldable pub holding : Memory → List Candidate → Memory
-holding m cs = memory (length cs) (idsOver cs (m .ids)) (densitiesOver cs (m .densities))
+holding m cs = memory (length cs) (columnOver (λ c. c .id) cs (m .ids)) (columnOver (λ c. c .density) cs (m .densities))
 
 -- ---- the two calls
 pub data Call : Type 0 where
   arrival : Candidate → Call
   departure : ℕ → Call
-
-unfoldable pub isId : ℕ → ℕ → Bool
-isId id x = eqb x id
 
 unfoldable pub isAmong : ℕ → List ℕ → Bool
 isAmong id [] = false
@@ -90,7 +96,7 @@ left m call = unlessRefused (answer m call) m (holding m (changed call (listed m
 -- ---- contracts
 -- the list cs was written over the columns
 abbrev pub Written : List Candidate → List ℕ → List Float → List ℕ → List Float → Type 0
-Written cs ids densities ids' densities' = (ids' ≡ idsOver cs ids) × (densities' ≡ densitiesOver cs densities)
+Written cs ids densities ids' densities' = (ids' ≡ columnOver (λ c. c .id) cs ids) × (densities' ≡ columnOver (λ c. c .density) cs densities)
 
 -- the contract of a call that finds m in memory, answers v and leaves m'
 abbrev pub Called : Memory → Call → Verdict → Memory → Type 0

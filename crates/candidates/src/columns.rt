@@ -1,5 +1,5 @@
-// One column of a list in memory: an entry is put in at a place of the first n, or taken out, and the
-// places past them stay as they are.
+// One column of a list in memory, of which the first n places are in use: an entry is put in at one of
+// them or behind the last, or taken out, and the places past the list stay as they are.
 ghost use mathlib.Core.Path.{_≡_};
 ghost use Prim.Native.Nat.{_≤_, _<_};
 ghost use lib.ListN.{length, take};

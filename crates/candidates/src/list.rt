@@ -10,15 +10,15 @@ ghost use Prim.Native.Nat.{min, _≤_, _<_};
 ghost use lib.ListN.{length, take};
 ghost use Rattle.numbers.specs.Refusal.{verdict};
 ghost use Rattle.candidates.specs.Lists.{firstWhere, removeAt};
-ghost use Rattle.candidates.specs.Candidate.{goesBefore};
+ghost use Rattle.candidates.specs.Candidate.{isId, goesBefore};
 ghost use Rattle.candidates.specs.Memory as Memory;
-ghost use Rattle.candidates.specs.Memory.{memory, rows, isId, Written, Called, arrival, departure};
+ghost use Rattle.candidates.specs.Memory.{memory, rows, Written, Called, arrival, departure};
 
 // How many candidates a list has room for.
 const ROOM: usize = 64;
 
-// How many places are looked at.
-fn listed(count: usize) -> usize
+// How many places hold a candidate: a count above 64 counts as 64.
+fn in_use(count: usize) -> usize
     ensures { λ r. ⌜ r ≡ min count 64 ⌝ }
 {
     if count < ROOM {
@@ -100,7 +100,7 @@ pub fn arrive(
 ) -> Check
     ensures { λ r. ⌜ Called (memory (now (count .entry)) (now (ids .entry)) (now (densities .entry))) (arrival c) (verdict r) (memory (now (count .exit)) (now (ids .exit)) (now (densities .exit))) ⌝ }
 {
-    let n = listed(*count);
+    let n = in_use(*count);
     let check = check_arrival(ids, n, c);
     if let Check::Refused(why) = check {
         return Check::Refused(why);
@@ -114,7 +114,7 @@ pub fn arrive(
 pub fn depart(count: &mut usize, ids: &mut [u16; 64], densities: &mut [f64; 64], id: u16) -> Check
     ensures { λ r. ⌜ Called (memory (now (count .entry)) (now (ids .entry)) (now (densities .entry))) (departure id) (verdict r) (memory (now (count .exit)) (now (ids .exit)) (now (densities .exit))) ⌝ }
 {
-    let n = listed(*count);
+    let n = in_use(*count);
     let at = find(ids, n, id);
     if at < n {
         remove(ids, densities, n, at);

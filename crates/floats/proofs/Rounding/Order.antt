@@ -1,4 +1,4 @@
--- `<` on the finite values of the format, by value: two are never below each other (`lt-asym`), and where y is below x and not below z, z is below x (`lt-step`).
+-- `<` on the finite values of the format, by value: two are never below each other (`lt-asym`), and where y is below x and not below z, z is below x (`lt-cotrans`).
 -- By the two comparisons' tests on whole numbers: of two finite values either the first is below the second, or the second is at most the first.
 use mathlib.Core.Bool.{Bool, true, false, _||_}
 use mathlib.Core.Logic.{inl, inr}
@@ -56,8 +56,8 @@ le-of-lt x y t = go (lt x y) t
 pub lt-asym : (x y : Float) → Finite x → Finite y → T (lt x y) → T (lt y x) → ⊥
 lt-asym x y f g p q = lt-not-le x y (f .finite-x) (g .finite-x) p (le-of-lt y x q)
 
-pub lt-step : (x y z : Float) → Finite x → Finite y → Finite z → T (lt y x) → (T (lt y z) → ⊥) → T (lt z x)
-lt-step x y z f g h p n =
+pub lt-cotrans : (x y z : Float) → Finite x → Finite y → Finite z → T (lt y x) → (T (lt y z) → ⊥) → T (lt z x)
+lt-cotrans x y z f g h p n =
     not-le-lt z x (h .finite-x) (f .finite-x)
     (λ q. lt-not-le y x (g .finite-x) (f .finite-x) p
     (le-trans-fits x z y (f .fits-x) (h .fits-x) (g .fits-x) q (not-lt-le y z (g .finite-x) (h .finite-x) n)))

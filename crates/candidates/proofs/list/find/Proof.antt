@@ -3,7 +3,7 @@ use Prim.Native.Nat.{_-_}
 use native.Mathlib.Omega.{arith}
 use borrow.Author.Needs.{needs}
 use borrow.Author.Tests.{eq-eqb, ne-eqb}
-use Rattle.candidates.specs.Memory.{isId}
+use Rattle.candidates.specs.Candidate.{isId}
 use Rattle.candidates.proofs.Lists.{Searching, searching-starts, searching-next, searching-found, searching-ends}
 use Rattle.candidates.proofs.list.find.Statement.{statement}
 use Rattle.candidates.proofs.list.find.Tie as tie
