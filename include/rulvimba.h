@@ -4,16 +4,16 @@
  *   rt staticlib rulvimba          makes target/staticlib/librulvimba.a
  *   cc program.c -Iinclude target/staticlib/librulvimba.a
  *
- * Each function is proved, for every input, to return what is said here and to leave in memory what is
- * said here (crates/rulvimba/src has the contracts, crates/rulvimba/specs their layout for C). It reads
- * and writes nothing else, keeps no state, allocates nothing, and always returns. What is asked of the
- * caller: a pointer to an array is good for the length that goes with it, a pointer to a path is good
- * for eight doubles, those to a list's arrays for 64 entries, none is NULL (an array of length 0
- * included), a bool is 0 or 1, and what is written to (path, output, list) overlaps nothing else that is
- * handed in. The processor's float control is
- * the default (round to nearest, nothing flushed to zero): a program linked with -ffast-math, or one
- * that sets a rounding mode, gets other answers. Calls on different memory may run on different
- * threads. The library is for x86-64 with the System V ABI, as on Linux.
+ * Each function of the library is proved, for every input, to return what is said here and to leave in
+ * memory what is said here (crates/rulvimba/src has the contracts, crates/rulvimba/specs their layout for
+ * C). It reads and writes nothing else, keeps no state, allocates nothing, and always returns. What is
+ * asked of the caller: a pointer to an array is good for the length that goes with it, a pointer to a path
+ * for eight doubles, those to a list for one count, 64 ids and 64 densities; none is NULL (an array of
+ * length 0 included); a bool is 0 or 1; and what is written to (a path, an output, each of a list's three
+ * parts) overlaps nothing else that is handed in. The processor's float control is the default (round to
+ * nearest, nothing flushed to zero): a program linked with -ffast-math, or one that sets a rounding mode,
+ * gets other answers. Calls on different memory may run on different threads. The library is for x86-64
+ * with the System V ABI, as on Linux.
  *
  * NUMBERS. Every result has a number: 0 where the call is accepted, else why it is refused, one of
  * RULVIMBA_REFUSED_.. below. Checks go in the order in which each function lists them; the first that
@@ -233,17 +233,18 @@ rulvimba_float_result rulvimba_density(rulvimba_surface surface, const double *e
 
 /* ---- the brightest directions: a list of candidates in the caller's memory ---- */
 
-/* A candidate direction: the caller's number for it, and its density. */
+/* A candidate direction: the caller's number for it, from 0 to 65535, and its density. (C cuts a larger
+ * number to its last 16 bits: see to it that ids fit.) */
 typedef struct { uint16_t id; double density; } rulvimba_candidate;
 
 /*
  * Up to 64 candidates: ids[0] and densities[0] are the first of the list, ids[count - 1] and
- * densities[count - 1] the last. It is empty where count is 0, as in
+ * densities[count - 1] the last. A list is empty where count is 0, whatever the places hold, as in
  *     rulvimba_candidates list = {0};
- * and the two calls below are to be all that changes it. Then it is after every call exactly the present
- * candidates, each a single time, greatest density first and equal densities in order of arrival; -0.0 and
- * 0.0 are equal densities, and each is kept as it came. A candidate that departs and arrives again stands
- * behind its equals.
+ * Arrivals and departures are to be all that changes it. Then, after every call, it is exactly the present
+ * candidates, each a single time, greatest density first and equal densities in order of arrival; count is
+ * at most 64. -0.0 and 0.0 are equal densities, and each is kept as it came. A candidate that departs and
+ * arrives again stands behind its equals.
  */
 enum { RULVIMBA_CANDIDATES = 64 };
 typedef struct {
@@ -253,17 +254,18 @@ typedef struct {
 } rulvimba_candidates;
 
 /*
- * An arrival, and the departure of the candidate that has the id, on a list's parts (the two below take the
- * struct). They return 0, and the first *count places hold the new list; every place past it is as it was.
+ * An arrival, and the departure of the candidate that has the id, on the three parts of a list, wherever
+ * they stand. They return 0, and the first *count places hold the new list; every place past it is as it was.
  * Refused: an arrival 9 for a density that is not finite or is below 0 (-0.0 is not); 11 if 64 are present;
  * 12 if the id is present; a departure 12 if the id is not present; and count, ids and densities are as
  * they were.
- * On a list that other hands made: a count above 64 counts as 64; an arrival is put before the first whose
- * density is less than its own, or else at the end; of several with the id the first departs.
+ * On a list that was filled in any other way: a count above 64 counts as 64; an arrival is put before the
+ * first whose density is less than its own, or else at the end; of several with the id the first departs.
  */
 uint64_t rulvimba_arrive_in(size_t *count, uint16_t *ids, double *densities, rulvimba_candidate candidate);
 uint64_t rulvimba_depart_in(size_t *count, uint16_t *ids, double *densities, uint16_t id);
 
+/* The same on a list as a struct: these two only hand its parts to the two above. */
 static inline uint64_t rulvimba_arrive(rulvimba_candidates *list, rulvimba_candidate candidate)
 {
     return rulvimba_arrive_in(&list->count, list->ids, list->densities, candidate);

@@ -1,13 +1,13 @@
--- Whether an id is among others, by the place that a search for it gives (`among-found`, `among-missed`): within them, or their number. By induction on the ids.
-use Prim.Native.Nat.{ℕ, suc, _≤_, _<_}
+-- Whether an id is among others: by the place that a search for it gives (`among-found`, `among-missed`), within them or their number, and by the loop that compares all (`Comparing`). By induction on the ids.
+use Prim.Native.Nat.{ℕ, suc, _+_, _≤_, _<_}
+use native.Mathlib.Numerals.{add-one}
 use native.Mathlib.Omega.{arith}
 use mathlib.Core.Path.{_≡_, refl, sym, ap, _∙_}
-use mathlib.Core.Bool.{Bool, true, false, not, _||_, cond}
+use mathlib.Core.Bool.{Bool, true, false, _||_, cond, or-false, or-assoc}
 use mathlib.Core.Logic.{_⊎_, inl, inr}
 use mathlib.Core.List.{List, [], _∷_}
-use borrow.Author.Tests.{le-leb, lt-leb}
-use lib.Dec.{leb}
-use lib.ListN.{length}
+use lib.ListN.{length, take, drop, getD, length-take, drop-of-length-le}
+use lib.Seq.{drop-cons, getD-take}
 use Rattle.candidates.specs.Lists.{firstWhere}
 use Rattle.candidates.specs.Candidate.{isId}
 use Rattle.candidates.specs.Memory.{isAmong}
@@ -34,12 +34,28 @@ module _ (id : ℕ) where
   pub among-missed : (ids : List ℕ) → length ids ≤ firstWhere (isId id) ids → isAmong id ids ≡ false
   among-missed ids h = elim (found ids) [ inl f ↦ absurd (let e = f .0 in omega arith) | inr f ↦ f .1 ]
 
-  pub not-among : (ids : List ℕ) → leb (length ids) (firstWhere (isId id) ids) ≡ not (isAmong id ids)
-  not-among ids = go (found ids)
-    where
-      go : Found ids (firstWhere (isId id) ids) (isAmong id ids) → leb (length ids) (firstWhere (isId id) ids) ≡ not (isAmong id ids)
-      go (inl f) = lt-leb _ _ (f .0) ∙ ap not (sym (f .1))
-      go (inr f) =
-          let e = f .0 in
-          let h : length ids ≤ firstWhere (isId id) ids = omega arith in
-          le-leb _ _ h ∙ ap not (sym (f .1))
+  -- the loop through the first n, at i: what was found of those passed decides together with the rest
+  pub record Comparing (n : ℕ) (ids : List ℕ) (i : ℕ) (among : Bool) : Type 0 where
+    pub to : i ≤ n
+    pub size : n ≤ length ids
+    pub rest : (among || isAmong id (drop i (take n ids))) ≡ isAmong id (take n ids)
+
+  pub comparing-starts : (n : ℕ) (ids : List ℕ) → n ≤ length ids → Comparing n ids 0 false
+  comparing-starts n ids h = record { to = omega arith; size = h; rest = refl }
+
+  pub comparing-next : (n : ℕ) (ids : List ℕ) (i : ℕ) (among : Bool) → Comparing n ids i among → i < n
+      → Comparing n ids (i + 1) (among || isId id (getD ids i 0))
+  unfolding isAmong
+  comparing-next n ids i among l h =
+      let z = l .size in
+      let m = length-take n ids in
+      let k : i < length (take n ids) = omega arith in
+      let e = rw (drop-cons (take n ids) i 0 k, getD-take n ids i 0 h) at (l .rest) in
+      record { to = omega arith; size = z; rest = or-assoc among (isId id (getD ids i 0)) _ ∙ rw add-one e }
+
+  pub comparing-ends : (n : ℕ) (ids : List ℕ) (i : ℕ) (among : Bool) → Comparing n ids i among → n ≤ i → among ≡ isAmong id (take n ids)
+  unfolding isAmong
+  comparing-ends n ids i among l h =
+      let m = length-take n ids in
+      let k : length (take n ids) ≤ i = omega arith in
+      sym (or-false among) ∙ (rw (drop-of-length-le (take n ids) k) at (l .rest))

@@ -8,3 +8,4 @@ pub mod Sorted
 pub mod Present
 pub mod Current
 pub mod Calls
+pub mod Samples

@@ -3,3 +3,4 @@ pub mod Lists
 pub mod Candidate
 pub mod Memory
 pub mod Current
+pub mod Samples

@@ -12,7 +12,7 @@ ghost use Rattle.numbers.specs.Refusal.{verdict};
 ghost use Rattle.candidates.specs.Lists.{firstWhere, removeAt};
 ghost use Rattle.candidates.specs.Candidate.{isId, goesBefore};
 ghost use Rattle.candidates.specs.Memory as Memory;
-ghost use Rattle.candidates.specs.Memory.{memory, rows, Written, Called, arrival, departure};
+ghost use Rattle.candidates.specs.Memory.{memory, rows, isAmong, Written, Called, arrival, departure};
 
 // How many candidates a list has room for.
 const ROOM: usize = 64;
@@ -42,6 +42,21 @@ fn find(ids: &[u16], n: usize, id: u16) -> usize
     n
 }
 
+// Whether an id is among the first n. All of them are compared, so that the compiler compares several at
+// a time.
+fn is_among(ids: &[u16], n: usize, id: u16) -> bool
+    requires { ⌜ n ≤ length (now ids) ⌝ }
+    ensures { λ r. ⌜ r ≡ isAmong id (take n (now (ids .entry))) ⌝ }
+{
+    let mut among = false;
+    let mut i = 0;
+    while i < n {
+        among = among | (ids[i] == id);
+        i += 1;
+    }
+    among
+}
+
 // The place of an arrival among the first n: before the first that it goes before.
 fn place(ids: &[u16], densities: &[f64], n: usize, c: Candidate) -> usize
     requires { ⌜ (length (now ids) ≡ length (now densities)) × (n ≤ length (now ids)) ⌝ }
@@ -66,10 +81,10 @@ fn check_arrival(ids: &[u16], n: usize, c: Candidate) -> Check
     requires { ⌜ n ≤ length (now ids) ⌝ }
     ensures { λ r. ⌜ verdict r ≡ Memory.check (take n (now (ids .entry))) (arrival c) ⌝ }
 {
-    let absent = n <= find(ids, n, c.id);
+    let among = is_among(ids, n, c.id);
     c.check()
         .then(refuse(Refusal::Full, n < ROOM))
-        .then(refuse(Refusal::Id, absent))
+        .then(refuse(Refusal::Id, !among))
 }
 
 // A candidate is put in among the first n.

@@ -1,10 +1,10 @@
--- Refusals by document 01's numbers ("At the counter"), checks one after the other, and answers that may be a refusal. Definitions only.
+-- Refusals by number, document 01's ("At the counter") and 02's from 11 on; checks one after the other, and answers that may be a refusal. Definitions only.
 use Prim.Native.Nat.{ℕ}
 use mathlib.Core.Bool.{Bool, cond}
 pub use Rattle.numbers.specs.declared.refusal.{Refusal.Refusal, Check.Check}
 use Rattle.numbers.specs.declared.refusal.Refusal.the-variants.{Roughness, Eta, K, Wavelength, Direction, RandomNumber, CirclePair, Filter, NotFinite, Power, Full, Id}
 
--- 01's number of each ground of refusal, and 02's from 11 on
+-- the number of each ground of refusal
 unfoldable pub number : Refusal → ℕ
 number Roughness = 1
 number Eta = 2
@@ -19,7 +19,7 @@ number Power = 10
 number Full = 11
 number Id = 12
 
--- ---- a check: passed, or failed with 01's number
+-- ---- a check: passed, or failed with its number
 pub data Verdict : Type 0 where
   accepted : Verdict
   rejected : ℕ → Verdict
@@ -38,7 +38,7 @@ unfoldable pub _then_ : Verdict → Verdict → Verdict
 accepted then next = next
 rejected n then next = rejected n
 
--- ---- what a call answers: 01's number and nothing besides, or a value
+-- ---- what a call answers: the number of a refusal and nothing besides, or a value
 pub data Answer (A : Type 0) : Type 0 where
   refused : ℕ → Answer A
   given : A → Answer A

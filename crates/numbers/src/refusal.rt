@@ -2,7 +2,8 @@
 ghost use mathlib.Core.Path.{_≡_};
 ghost use Rattle.numbers.specs.Refusal.{number, verdict, refuse, _then_};
 
-// What was refused. The definition `number` gives document 01's number of each, and 02's from 11 on.
+// What was refused. The definition `number` gives the number of each, document 01's and from 11 on 02's.
+// A density is refused as `NotFinite` also where it is to be listed and below 0.
 pub enum Refusal {
     Roughness,
     Eta,
@@ -25,7 +26,7 @@ pub enum Check {
 }
 
 impl Refusal {
-    // Document 01's number, or 02's.
+    // The number of the refusal.
     pub fn number(self) -> u64
         ensures { λ r. ⌜ r ≡ number self ⌝ }
     {

@@ -1,11 +1,10 @@
--- `candidates::list::check_arrival` meets its contract: the definition, check by check; that an id is not among the first n is that its place is n (`not-among`).
+-- `candidates::list::check_arrival` meets its contract: the definition, check by check; the first n are n.
 use native.Mathlib.Omega.{arith}
 use mathlib.Core.Path.{_≡_}
 use borrow.Author.Needs.{needs}
 use lib.ListN.{length, take, length-take}
 use Rattle.numbers.specs.Refusal.{number}
 use Rattle.candidates.specs.Memory.{check}
-use Rattle.candidates.proofs.Ids.{not-among}
 use Rattle.candidates.proofs.list.check_arrival.Statement.{statement}
 use Rattle.candidates.proofs.list.check_arrival.Tie as tie
 
@@ -22,8 +21,7 @@ returns c =
       c .before .before .then .ensures,
       c .before .before .before .refuse .ensures,
       c .before .before .before .before .check .ensures,
-      f .find .ensures,
-      ← not-among (a .c .id) (take (a .n) (a .ids .now)),
+      f .is-among .ensures,
       e,
     )
 
