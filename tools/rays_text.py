@@ -12,11 +12,13 @@ from typing import NamedTuple
 
 SURFACES = 64
 PATHS = 1024
+CANDIDATES = 64
+IDS = 65536
 WAVELENGTHS = (360, 830)  # nm
 TABLES = {95: 5, 471: 1}  # entries of a spectrum from 360 nm on, and how many nm apart they are
 LINE_MAX = 32768  # bytes of a job's line without its line feed, and more than a line of figures takes
 
-COMMANDS = ("surface", "start", "bounce", "density")
+COMMANDS = ("surface", "start", "bounce", "density", "arrive", "depart", "list")
 UNITS = ("per-sr", "probability")
 
 # Why a line is refused, by its number (the table of docs/RAYS.md).
@@ -29,8 +31,10 @@ GROUNDS = {
     6: "u or the disk number is not from 0 to below 1",
     7: "c and s are not a cosine and a sine: their squares do not add up to 1 within 1e-12",
     8: "a filter is not from 0 to 1",
-    9: "the density is not finite",
+    9: "the density is not finite, or below 0 (an arrival)",
     10: "a power is not from 0 to 1",
+    11: "the list is full: 64 candidates are present",
+    12: "the id is present already (an arrival), or is not present (a departure)",
 }
 
 # What is wrong with a line that is no command.
@@ -38,6 +42,7 @@ FAULTS = {
     "unknown command",
     "a surface's index is from 0 to 63",
     "a path's index is from 0 to 1023",
+    "an id is from 0 to 65535",
     "a kind is metal or glass",
     "a flag is 0 or 1",
     "a number is the 16 hexadecimal digits of its bits; a decimal is turned into them by rays-csv to-job",
@@ -189,8 +194,14 @@ class Words:
         return word
 
     def index(self, limit, what):
+        return self.below(self.is_index, limit, what)
+
+    def id(self):
+        return self.below(self.is_id, IDS, "an id")
+
+    def below(self, is_decimal, limit, what):
         word = self.next(what)
-        if not self.is_index(word) or int(word) >= limit:
+        if not is_decimal(word) or int(word) >= limit:
             raise self.wrong(f"word {self.at} is {shown(word)} where {what}, from 0 to {limit - 1}, should stand")
         return word
 
@@ -216,6 +227,7 @@ class Words:
 class JobWords(Words):
     NUMBER = "16 hexadecimal digits"
     is_index = staticmethod(re.compile("[0-9]{1,4}").fullmatch)
+    is_id = staticmethod(re.compile("[0-9]{1,5}").fullmatch)
     is_number = staticmethod(re.compile("[0-9a-fA-F]{16}").fullmatch)
     are_numbers = staticmethod(re.compile("[0-9a-fA-F]{16}(?: [0-9a-fA-F]{16})*").fullmatch)
 
@@ -236,6 +248,7 @@ class JobWords(Words):
 class FigureWords(Words):
     NUMBER = "16 lowercase hexadecimal digits"
     is_index = staticmethod(re.compile("0|[1-9][0-9]{0,3}").fullmatch)
+    is_id = staticmethod(re.compile("0|[1-9][0-9]{0,4}").fullmatch)
     # of the patterns of a NaN one alone is written
     FORM_OF_NUMBER = "(?:(?!7ff|fff)[0-9a-f]{16}|7ff8000000000000|[7f]ff0000000000000)"
     is_number = staticmethod(re.compile(FORM_OF_NUMBER).fullmatch)
@@ -293,7 +306,7 @@ def job_lines(source):
 class Command(NamedTuple):
     """A job's command, every word of it looked at. Numbers are digits as they stand."""
     name: str
-    index: int
+    index: int = None    # of a candidate its id
     surface: int = None
     kind: str = ""
     flag: str = ""
@@ -354,16 +367,41 @@ def density_command(words):
     return Command("density", surface, surface, flag=flag, numbers=tuple(numbers))
 
 
-READERS = {"surface": surface_command, "start": start_command, "bounce": bounce_command, "density": density_command}
+def arrive_command(words):
+    index = int(words.id())
+    density = words.number()
+    words.end()
+    return Command("arrive", index, numbers=(density,))
+
+
+def depart_command(words):
+    index = int(words.id())
+    words.end()
+    return Command("depart", index)
+
+
+def list_command(words):
+    words.end()
+    return Command("list")
+
+
+READERS = {"surface": surface_command, "start": start_command, "bounce": bounce_command, "density": density_command,
+           "arrive": arrive_command, "depart": depart_command, "list": list_command}
 
 
 # ---- figures
+
+class Listed(NamedTuple):
+    """A candidate of a list."""
+    id: int
+    density: str
+
 
 class Figure(NamedTuple):
     """A line of figures. Numbers are digits as they stand; what a line doesn't have is empty."""
     line: int            # of the job
     command: str         # or error
-    index: int = None
+    index: int = None    # of a candidate its id
     answer: str = ""     # ok, lost, reflected, passed, refused; of an error what is wrong
     number: int = None   # of a refusal, or of the word of an error
     wi: tuple = ()
@@ -372,6 +410,7 @@ class Figure(NamedTuple):
     shares: tuple = ()
     wavelengths: tuple = ()
     powers: tuple = ()
+    listed: tuple = ()   # from the top
 
 
 class Counts(NamedTuple):
@@ -434,11 +473,18 @@ def figure_line(source, at, text):
     name = words.choice(*COMMANDS, "error")
     if name == "error":
         return error_line(source, at, text)
-    limit, what = (PATHS, "a path") if name in ("start", "bounce") else (SURFACES, "a surface")
-    index = int(words.index(limit, what))
-    figure = OUTCOMES[name](words, Figure(int(line), name, index))
+    figure = OUTCOMES[name](words, Figure(int(line), name, index_of(words, name)))
     words.end()
     return figure
+
+
+def index_of(words, name):
+    """The index that stands behind a command's name; a list has none."""
+    if name == "list":
+        return None
+    if name in ("arrive", "depart"):
+        return int(words.id())
+    return int(words.index(PATHS, "a path") if name in ("start", "bounce") else words.index(SURFACES, "a surface"))
 
 
 def error_line(source, at, text):
@@ -505,7 +551,22 @@ def found_density(words, figure):
     return Figure(*figure[:3], "ok", density=words.finite(), unit=words.choice(*UNITS))
 
 
-OUTCOMES = {"surface": made, "start": made, "bounce": bounced, "density": found_density}
+def listed(words, figure):
+    """The candidates of a list: as many as it says, each a single time, none with a greater density below it."""
+    count = int(words.index(CANDIDATES + 1, "the number of candidates"))
+    found, least = {}, float("inf")
+    for _ in range(count):
+        index, density = int(words.id()), words.finite()
+        if index in found:
+            raise words.wrong(f"word {words.at - 1} is {index}, which is in the list already")
+        if not 0 <= double(density) <= least:
+            raise words.wrong(f"word {words.at} is {density}, a density that is below 0 or above the one before it")
+        found[index], least = density, double(density)
+    return Figure(*figure[:3], "ok", listed=tuple(Listed(*pair) for pair in found.items()))
+
+
+OUTCOMES = {"surface": made, "start": made, "bounce": bounced, "density": found_density, "arrive": made, "depart": made,
+            "list": listed}
 
 
 # ---- a job beside its figures
@@ -543,17 +604,32 @@ def answered_command(job, line, figure):
         return None
     found = command(job, line)
     if (found.name, found.index) != (figure.command, figure.index):
-        raise job.wrong(line.number, f"is {found.name} {found.index}, and its figures are of {figure.command} "
-                        f"{figure.index}: these figures are of another job")
-    if figure.number in (None, 9) and not is_within_limits(found):
-        raise job.wrong(line.number, "has a number beyond the limits, and its figures are of an answer: these figures "
-                        "are of another job")
+        raise job.wrong(line.number, f"is {titled(found.name, found.index)}, and its figures are of "
+                        f"{titled(figure.command, figure.index)}: these figures are of another job")
+    if not can_have(found, figure.number):
+        raise job.wrong(line.number, "has numbers to which its figures are no answer: these figures are of another job")
     return found
+
+
+def titled(name, index):
+    return name if index is None else f"{name} {index}"
+
+
+def can_have(found, refusal):
+    """Whether a command's numbers can be refused by a number, or by none: in an arrival 9 is the limit itself, elsewhere
+    it comes behind the limits."""
+    if found.name == "arrive":
+        return is_within_limits(found) == (refusal != 9)
+    return refusal not in (None, 9) or is_within_limits(found)
 
 
 def is_within_limits(found):
     """Whether a command has numbers with which it can be answered: all but spectra, circle pairs and filters."""
     x = doubles(found.numbers)
+    if found.name in ("depart", "list"):
+        return True
+    if found.name == "arrive":
+        return 0 <= x[0] < float("inf")
     if found.name == "surface":
         return 0 <= x[0] <= 1
     if found.name == "start":

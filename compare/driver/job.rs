@@ -1,5 +1,5 @@
 //! `rays` in Rust: a job in, figures out (docs/RAYS.md has the format). It streams as `rays` does, and holds
-//! nothing but the surfaces and the paths. The bounce is a parameter: the driver's own answer, or the plain one.
+//! nothing but the surfaces, the paths and the candidates. The bounce is a parameter: the driver's own answer, or the plain one.
 use super::harness::bits;
 use super::optics::{density, make_surface, Color, Fields};
 use super::path::{plain, rust, rust_start, Bounce, Bounced, Lumo, Path, LOST, REFLECTED, REFUSED};
@@ -18,6 +18,7 @@ pub const PLAIN: Answer = |p, of, b| plain(*p, &of.surface, *b);
 
 const SURFACES: usize = 64;
 const PATHS: usize = 1024;
+const CANDIDATES: usize = 64;
 const LINE_MAX: usize = 32768;
 
 /// What is wrong with a number.
@@ -67,9 +68,9 @@ fn hex(word: &[u8]) -> Option<u64> {
     Some(value)
 }
 
-/// At most four decimal digits.
-fn decimal(word: &[u8]) -> Option<usize> {
-    if word.len() > 4 || !word.iter().all(u8::is_ascii_digit) {
+/// At most so many decimal digits.
+fn decimal(word: &[u8], most: usize) -> Option<usize> {
+    if word.len() > most || !word.iter().all(u8::is_ascii_digit) {
         return None;
     }
     Some(word.iter().fold(0, |n, d| n * 10 + (d - b'0') as usize))
@@ -110,9 +111,16 @@ impl<'a> Line<'a> {
     }
 
     fn index(&mut self, limit: usize, what: &'static str) -> Reading<usize> {
-        match decimal(self.word()?) {
+        match decimal(self.word()?, 4) {
             Some(i) if i < limit => Ok(i),
             _ => self.wrong(what),
+        }
+    }
+
+    fn id(&mut self) -> Reading<u16> {
+        match decimal(self.word()?, 5).and_then(|id| id.try_into().ok()) {
+            Some(id) => Ok(id),
+            None => self.wrong("an id is from 0 to 65535"),
         }
     }
 
@@ -239,6 +247,55 @@ fn figures(out: &mut impl Write, a: &Bounced, of: &Surface) -> Written {
     answered(out, b"\n")
 }
 
+// ---- candidates, from document 02, (ii)
+
+/// A candidate direction.
+#[derive(Clone, Copy)]
+struct Candidate {
+    id: u16,
+    density: f64,
+}
+
+/// The candidates that are present, in the order in which they arrived.
+struct Present(Vec<Candidate>);
+
+impl Present {
+    fn has(&self, id: u16) -> bool {
+        self.0.iter().any(|c| c.id == id)
+    }
+
+    /// The number that an arrival is refused with, or 0.
+    fn arrive(&mut self, c: Candidate) -> u64 {
+        if !c.density.is_finite() || c.density < 0.0 {
+            return 9;
+        }
+        if self.0.len() == CANDIDATES {
+            return 11;
+        }
+        if self.has(c.id) {
+            return 12;
+        }
+        self.0.push(c);
+        0
+    }
+
+    /// The number that a departure is refused with, or 0.
+    fn depart(&mut self, id: u16) -> u64 {
+        if !self.has(id) {
+            return 12;
+        }
+        self.0.retain(|c| c.id != id);
+        0
+    }
+
+    /// Greatest density first. The sort is stable, so that equal densities stand in the order of arrival.
+    fn listed(&self) -> Vec<Candidate> {
+        let mut all = self.0.clone();
+        all.sort_by(|a, b| b.density.partial_cmp(&a.density).unwrap());
+        all
+    }
+}
+
 // ---- commands
 
 /// What a job holds.
@@ -246,11 +303,13 @@ pub struct Held {
     answer: Answer,
     pub surfaces: Vec<Option<Lumo>>,
     paths: Vec<Option<Path>>,
+    present: Present,
 }
 
 impl Held {
     pub fn new(answer: Answer) -> Self {
-        Self { answer, surfaces: (0..SURFACES).map(|_| None).collect(), paths: vec![None; PATHS] }
+        let surfaces = (0..SURFACES).map(|_| None).collect();
+        Self { answer, surfaces, paths: vec![None; PATHS], present: Present(vec![]) }
     }
 
     fn surface(&mut self, line: &mut Line, out: &mut impl Write) -> Reading<Written> {
@@ -311,6 +370,28 @@ impl Held {
         })
     }
 
+    fn arrive(&mut self, line: &mut Line, out: &mut impl Write) -> Reading<Written> {
+        let c = Candidate { id: line.id()?, density: line.number()? };
+        line.end()?;
+        let number = self.present.arrive(c);
+        Ok(write!(out, " arrive {}", c.id).and_then(|_| ok_or_refused(out, number)))
+    }
+
+    fn depart(&mut self, line: &mut Line, out: &mut impl Write) -> Reading<Written> {
+        let id = line.id()?;
+        line.end()?;
+        let number = self.present.depart(id);
+        Ok(write!(out, " depart {id}").and_then(|_| ok_or_refused(out, number)))
+    }
+
+    fn list(&self, line: &mut Line, out: &mut impl Write) -> Reading<Written> {
+        line.end()?;
+        let all = self.present.listed();
+        Ok(write!(out, " list {}", all.len())
+            .and_then(|_| all.iter().try_for_each(|c| labelled(out, format!(" {}", c.id).as_bytes(), &[c.density])))
+            .and_then(|_| answered(out, b"\n")))
+    }
+
     /// Answers a line, without its line feed.
     pub fn answer(&mut self, text: &[u8], at: usize, out: &mut impl Write) -> Written {
         let mut line = Line { rest: text, words: 0 };
@@ -321,6 +402,9 @@ impl Held {
             b"density" => self.density(&mut line, out),
             b"start" => self.start(&mut line, out),
             b"surface" => self.surface(&mut line, out),
+            b"arrive" => self.arrive(&mut line, out),
+            b"depart" => self.depart(&mut line, out),
+            b"list" => self.list(&mut line, out),
             _ => line.wrong("unknown command"),
         };
         answered.unwrap_or_else(|fault| {

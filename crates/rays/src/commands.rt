@@ -1,11 +1,14 @@
 // The commands of a job. Each reads its line, calls the model and puts one line of answer behind the
 // first `n` bytes of `out`; it answers how many bytes are used then, and what the answer is.
+use crate::list;
+use crate::replies::fault;
+use crate::replies::fault_at;
+use crate::replies::refused;
 use crate::sizes;
 use crate::store;
 use counter::SurfaceAnswer;
 use numbers::checked::FloatAnswer;
 use numbers::dense_spectrum::DenseSpectrum;
-use numbers::refusal::Refusal;
 use numbers::vec3::Vec3;
 use optics::bxdf::dielectric;
 use optics::color::Color;
@@ -23,7 +26,6 @@ use path::records::Started;
 use text::answers;
 use text::answers::Answered;
 use text::answers::Outcome;
-use text::answers::Room;
 use text::line;
 use text::line::Cursor;
 use text::line::EntriesRead;
@@ -37,24 +39,6 @@ ghost use Rattle.path.specs.Answer.{outcome, bounce, pathOf};
 ghost use Rattle.rays.specs.Store.{pathIn, keepPath};
 
 // ---- answers
-
-// What is wrong at a word.
-fn fault_at(out: &mut [u8], n: usize, word: u64, fault: Fault) -> Answered {
-    let room = Room {
-        surfaces: store::SURFACES,
-        paths: store::PATHS,
-    };
-    answers::fault(out, n, word, fault, room)
-}
-
-fn fault(out: &mut [u8], n: usize, c: Cursor) -> Answered {
-    let what = c.fault;
-    fault_at(out, n, c.words, what)
-}
-
-fn refused(out: &mut [u8], n: usize, why: Refusal) -> Answered {
-    answers::refused(out, n, why.number())
-}
 
 // What a density is on a surface: the probability of the one direction that light is scattered into, or
 // per solid angle.
@@ -426,7 +410,7 @@ enum Command {
     Density,
     Start,
     Surface,
-    Unknown,
+    Other,
 }
 
 fn command_of(word: &[u8]) -> Command {
@@ -442,7 +426,7 @@ fn command_of(word: &[u8]) -> Command {
     if same(word, b"surface") {
         return Command::Surface;
     }
-    Command::Unknown
+    Command::Other
 }
 
 // The line `number` of a job, without its line feed.
@@ -451,6 +435,9 @@ pub fn answer(
     number: u64,
     surfaces: &mut [f64],
     paths: &mut [f64],
+    count: &mut usize,
+    ids: &mut [u16; sizes::CANDIDATES],
+    densities: &mut [f64; sizes::CANDIDATES],
     out: &mut [u8],
     n: usize,
 ) -> Answered {
@@ -469,6 +456,6 @@ pub fn answer(
         Command::Density => density(text, c, surfaces, out, a),
         Command::Start => start(text, c, paths, out, a),
         Command::Surface => surface(text, c, surfaces, out, a),
-        Command::Unknown => fault_at(out, a, 1, Fault::Command),
+        Command::Other => list::answer(text, first, count, ids, densities, out, a),
     }
 }

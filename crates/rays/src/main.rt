@@ -12,6 +12,8 @@ use text::line;
 use text::words::part;
 
 mod commands;
+mod list;
+mod replies;
 mod sizes;
 mod store;
 
@@ -54,6 +56,9 @@ fn line_answer(
     s: Stream,
     surfaces: &mut [f64],
     paths: &mut [f64],
+    count: &mut usize,
+    ids: &mut [u16; sizes::CANDIDATES],
+    densities: &mut [f64; sizes::CANDIDATES],
     out: &mut [u8],
 ) -> Answered {
     let used = s.used;
@@ -67,7 +72,17 @@ fn line_answer(
     if sizes::LINE < text.len() {
         return answers::too_long(out, used, s.number, sizes::LINE as u64);
     }
-    commands::answer(text, s.number, surfaces, paths, out, used)
+    commands::answer(
+        text,
+        s.number,
+        surfaces,
+        paths,
+        count,
+        ids,
+        densities,
+        out,
+        used,
+    )
 }
 
 // The stream with an answer more.
@@ -238,24 +253,16 @@ fn answer_line(
     s: Stream,
     surfaces: &mut [f64],
     paths: &mut [f64],
+    count: &mut usize,
+    ids: &mut [u16; sizes::CANDIDATES],
+    densities: &mut [f64; sizes::CANDIDATES],
     out: &mut [u8],
 ) -> Stream {
     if !s.ready {
         return s;
     }
-    behind(with_answer(s, line_answer(buf, s, surfaces, paths, out)))
-}
-
-fn step(
-    fd: i32,
-    buf: &mut [u8],
-    s: Stream,
-    surfaces: &mut [f64],
-    paths: &mut [f64],
-    out: &mut [u8],
-) -> Stream {
-    let r = next_line(fd, buf, s, out);
-    answer_line(buf, r, surfaces, paths, out)
+    let answer = line_answer(buf, s, surfaces, paths, count, ids, densities, out);
+    behind(with_answer(s, answer))
 }
 
 // What was answered is counted in the last line, if the job was read to its end.
@@ -289,12 +296,16 @@ fn answer_all(
     buf: &mut [u8],
     surfaces: &mut [f64],
     paths: &mut [f64],
+    count: &mut usize,
+    ids: &mut [u16; sizes::CANDIDATES],
+    densities: &mut [f64; sizes::CANDIDATES],
     out: &mut [u8],
 ) -> Stream {
     let mut s = beginning();
     let mut turns = u64::MAX;
     while turns > 0 && s.go {
-        s = step(fd, buf, s, surfaces, paths, out);
+        let r = next_line(fd, buf, s, out);
+        s = answer_line(buf, r, surfaces, paths, count, ids, densities, out);
         turns -= 1;
     }
     s
@@ -304,8 +315,20 @@ fn answer_job(fd: i32) {
     let mut buf = io::large_buffer();
     let mut surfaces = [0.0; sizes::SURFACES * sizes::SURFACE];
     let mut paths = [0.0; sizes::PATHS * sizes::PATH];
+    let mut count: usize = 0;
+    let mut ids = [0u16; sizes::CANDIDATES];
+    let mut densities = [0.0; sizes::CANDIDATES];
     let mut out = [0u8; sizes::OUTPUT];
-    let s = answer_all(fd, &mut buf, &mut surfaces, &mut paths, &mut out);
+    let s = answer_all(
+        fd,
+        &mut buf,
+        &mut surfaces,
+        &mut paths,
+        &mut count,
+        &mut ids,
+        &mut densities,
+        &mut out,
+    );
     finish(s, &mut out);
 }
 

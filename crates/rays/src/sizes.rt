@@ -7,6 +7,9 @@ pub const SURFACES: usize = 64;
 
 pub const PATHS: usize = 1024;
 
+// How many candidates the list holds, which is the model's number.
+pub const CANDIDATES: usize = 64;
+
 // A path's numbers: four wavelengths, four powers.
 pub const COLOR: usize = 4;
 
@@ -36,8 +39,9 @@ pub const DENSITY: usize = 7;
 // The longest line, without its line feed.
 pub const LINE: usize = 32768;
 
-// The most that the answer to a line takes.
-pub const ANSWER: usize = 1024;
+// More than the answer to a line takes, and the error behind it that the next line is too long. A list of
+// CANDIDATES takes the most, some 1500 bytes: a blank, five digits, a blank and sixteen digits for each.
+pub const ANSWER: usize = 2048;
 
 // The buffer of answers that are to be written.
 pub const OUTPUT: usize = 16 * ANSWER;

@@ -68,19 +68,19 @@ pub fn hex16(t: &[u8]) -> Digits {
     Digits { ok: false, bits: 0 }
 }
 
-// The value of decimal digits, and 10000 where they are more than four or one of them is none.
+// The value of decimal digits, and 100000 where they are more than five or one of them is none.
 pub fn decimal(digits: &[u8]) -> u64 {
-    if 4 < digits.len() {
-        return 10000;
+    if 5 < digits.len() {
+        return 100000;
     }
     let mut value: u64 = 0;
     let mut i: usize = 0;
     while i < digits.len() {
         let d = digit(byte_at(digits, i));
         if 9 < d {
-            return 10000;
+            return 100000;
         }
-        value = (value % 1000) * 10 + d;
+        value = (value % 10000) * 10 + d;
         i += 1;
     }
     value

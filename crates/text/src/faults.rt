@@ -22,6 +22,7 @@ pub fn text(out: &mut [u8], n: usize, fault: Fault, surfaces: u64, paths: u64) -
     match fault {
         Fault::SurfaceIndex => index(out, n, b"a surface's", surfaces),
         Fault::PathIndex => index(out, n, b"a path's", paths),
+        Fault::Id => output::text(out, n, b"an id is from 0 to 65535\n"),
         Fault::Kind => output::text(out, n, b"a kind is metal or glass\n"),
         Fault::Flag => output::text(out, n, b"a flag is 0 or 1\n"),
         Fault::Number => output::text(

@@ -7,11 +7,19 @@ use crate::words::is_blank;
 use crate::words::part;
 use crate::words::same;
 
+// How many digits an index has at the most, and an id; and how many ids there are.
+const INDEX_DIGITS: usize = 4;
+
+const ID_DIGITS: usize = 5;
+
+const IDS: u64 = 65536;
+
 // What is wrong with a line.
 pub enum Fault {
     Command,
     SurfaceIndex,
     PathIndex,
+    Id,
     Kind,
     Flag,
     Number,
@@ -35,6 +43,11 @@ pub struct Cursor {
 // What was read, and the cursor behind it.
 pub struct IndexRead {
     pub value: u64,
+    pub next: Cursor,
+}
+
+pub struct IdRead {
+    pub value: u16,
     pub next: Cursor,
 }
 
@@ -232,8 +245,8 @@ pub fn entries(text: &[u8], c: Cursor, values: &mut [f64]) -> EntriesRead {
     EntriesRead { count, next: now }
 }
 
-// An index below `limit`.
-pub fn index(text: &[u8], c: Cursor, limit: u64, fault: Fault) -> IndexRead {
+// A decimal of no more than `most` digits, below `limit`.
+fn decimal(text: &[u8], c: Cursor, most: usize, limit: u64, fault: Fault) -> IndexRead {
     if !c.ok {
         return IndexRead { value: 0, next: c };
     }
@@ -244,8 +257,9 @@ pub fn index(text: &[u8], c: Cursor, limit: u64, fault: Fault) -> IndexRead {
             next: b.wrong(Fault::Short),
         };
     }
-    let value = digits::decimal(word(text, b));
-    if value < limit {
+    let word = word(text, b);
+    let value = digits::decimal(word);
+    if word.len() <= most && value < limit {
         return IndexRead {
             value,
             next: behind_word(text, b),
@@ -254,6 +268,21 @@ pub fn index(text: &[u8], c: Cursor, limit: u64, fault: Fault) -> IndexRead {
     IndexRead {
         value: 0,
         next: b.wrong(fault),
+    }
+}
+
+// An index below `limit`.
+pub fn index(text: &[u8], c: Cursor, limit: u64, fault: Fault) -> IndexRead {
+    decimal(text, c, INDEX_DIGITS, limit, fault)
+}
+
+// A candidate's id.
+pub fn id(text: &[u8], c: Cursor) -> IdRead {
+    let read = decimal(text, c, ID_DIGITS, IDS, Fault::Id);
+    let next = read.next;
+    IdRead {
+        value: (read.value % IDS) as u16,
+        next,
     }
 }
 

@@ -7,21 +7,21 @@ use Rattle.rays.proofs.answer_all.Statement.{statement}
 use Rattle.rays.proofs.answer_all.Tie as tie
 
 abbrev Inv-loop : tie.InvT-loop
-Inv-loop fd buf₀ surfaces₀ paths₀ out₀ s₀ turns₀ buf surfaces paths out s turns =
+Inv-loop fd buf₀ surfaces₀ paths₀ count₀ ids₀ densities₀ out₀ s₀ turns₀ buf surfaces paths count ids densities out s turns =
     (length buf ≡ length buf₀)
     × (length surfaces ≡ length surfaces₀)
     × (length paths ≡ length paths₀)
     × (length out ≡ length out₀)
 
 abbrev μ-loop : tie.MeasureT-loop
-μ-loop fd buf₀ surfaces₀ paths₀ out₀ s₀ turns₀ buf surfaces paths out s turns = turns
+μ-loop fd buf₀ surfaces₀ paths₀ count₀ ids₀ densities₀ out₀ s₀ turns₀ buf surfaces paths count ids densities out s turns = turns
 
 loop-holds : tie.Need-loop-holds Inv-loop μ-loop
 loop-holds c = (refl, refl, refl, refl)
 
 loop-again : tie.Need-loop-again Inv-loop μ-loop
 loop-again c =
-    let inv = c .before .before .before .before .before .before .before .before .before .before .before .before .before .before .before .loop .inv in
+    let inv = c .before .before .before .before .before .before .before .before .before .before .before .before .before .before .before .before .before .before .before .before .before .before .before .loop .inv in
     (search (needs, inv .0), search (needs, inv .1), search (needs, inv .2), search (needs, inv .3))
 
 same-length : tie.Need-same-length Inv-loop μ-loop
@@ -51,5 +51,5 @@ same-length-8 c = c .before .loop .inv .3
 pub answer-all-spec : {M : Type 1} → statement M
 answer-all-spec =
     tie.close
-    (tie.spec Inv-loop μ-loop (λ c κs. tt) loop-holds (λ c κs. tt) (λ c. omega arith) (λ c. omega arith) loop-again same-length same-length-2 same-length-3
+    (tie.spec Inv-loop μ-loop (λ c κs. tt) loop-holds (λ c κs. tt) (λ c κs. tt) (λ c. omega arith) (λ c. omega arith) loop-again same-length same-length-2 same-length-3
     same-length-4 (λ c. tt) same-length-5 same-length-6 same-length-7 same-length-8 (λ c. tt))
