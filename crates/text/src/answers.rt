@@ -45,7 +45,7 @@ pub fn too_long(out: &mut [u8], n: usize, number: u64, most: u64) -> Answered {
     }
 }
 
-// A refusal by document 01's number, after the line's.
+// A refusal by its number, after the line's.
 pub fn refused(out: &mut [u8], n: usize, number: u64) -> Answered {
     let a = output::labelled(out, n, b" refused ", number);
     Answered {
