@@ -1,12 +1,12 @@
 -- The brightest directions, kept current (document 02, ii), as one statement over every list of calls from an empty list. Definitions only; it is proved in proofs/Current.antt.
--- It says what the list is by who is present and what stands before what, and nothing of places or of how a candidate is put in.
+-- It says what the list is by who is present and what stands before what, and nothing of how a candidate is put in.
 use Prim.Native.Nat.{ℕ, suc, _≤_}
 use mathlib.Core.{Path._≡_, Bool.Bool, Bool.not, Bool._&&_, Bool._||_, Bool.cond, List.List, List.[], List._∷_, List.map, List.List·Permᴰ}
 use lib.Dec.{T, ltb}
 use lib.ListN.{length}
 use Rattle.numbers.specs.Refusal.{Verdict}
 use Rattle.candidates.specs.Candidate.{Candidate, goesBefore, hasId, CandidateF64}
-use Rattle.candidates.specs.Memory.{Memory, Sized, Laid, Call, arrival, departure, check, unlessRefused, Called}
+use Rattle.candidates.specs.Memory.{places, Memory, Sized, Laid, Call, arrival, departure, check, unlessRefused, Called}
 
 -- ---- who is present
 -- a present candidate, with the number of the call that it arrived by
@@ -52,9 +52,9 @@ pub record Current (m : Memory) (ps : List Present) : Type 0 where
   pub present : List·Permᴰ order ps
   pub sorted : Pairwise (λ a b. T (before a b)) order
   pub laid : Laid (map (λ p. p .candidate) order) m
-  -- and so no id stands twice, and there are 64 at the most
+  -- and so no id stands twice, and they have room
   pub once : Pairwise (λ a b. a .candidate .id ≡ b .candidate .id → ⊥) order
-  pub room : length order ≤ 64
+  pub room : length order ≤ places
 
 -- ---- a list of calls
 unfoldable pub CallF64 : Call → Type 0
@@ -68,7 +68,7 @@ Throughout n ps m (call ∷ calls) =
     (v : Verdict) (m' : Memory) → Called m call v m'
     → (v ≡ settle ps call) × Current m' (after n ps call) × Throughout (suc n) (after n ps call) m' calls
 
--- memory with 64 places and a count of 0, whatever the places hold
+-- memory with all its places and a count of 0, whatever the places hold
 pub record Empty (m : Memory) : Type 0 where
   pub sized : Sized m
   pub count : m .count ≡ 0

@@ -9,7 +9,10 @@ use Rattle.numbers.specs.Refusal.{Verdict, accepted, rejected, refuse, _then_}
 use Rattle.candidates.specs.Lists.{over}
 use Rattle.candidates.specs.Candidate.{Candidate, checkCandidate, goesBefore, isId, hasId}
 
--- ---- a list in memory: how many candidates it has, and places for the ids and the densities
+-- ---- a list in memory: how many candidates it has, and places for their ids and their densities
+abbrev pub places : ℕ
+places = 64
+
 pub record Memory : Type 0 where
   pub count : ℕ
   pub ids : List ℕ
@@ -18,10 +21,10 @@ pub record Memory : Type 0 where
 abbrev pub memory : ℕ → List ℕ → List Float → Memory
 memory count ids densities = record { count = count; ids = ids; densities = densities }
 
--- it has 64 places
+-- it has all its places
 pub record Sized (m : Memory) : Type 0 where
-  pub ids : length (m .ids) ≡ 64
-  pub densities : length (m .densities) ≡ 64
+  pub ids : length (m .ids) ≡ places
+  pub densities : length (m .densities) ≡ places
 
 -- it has exactly these candidates, each in its place
 pub record Laid (cs : List Candidate) (m : Memory) : Type 0 where
@@ -64,7 +67,7 @@ isAmong id (x ∷ ids) = isId id x || isAmong id ids
 unfoldable pub check : List ℕ → Call → Verdict
 check ids (arrival c) =
     checkCandidate c
-    then refuse 11 (ltb (length ids) 64)
+    then refuse 11 (ltb (length ids) places)
     then refuse 12 (not (isAmong (c .id) ids))
 check ids (departure id) = refuse 12 (isAmong id ids)
 

@@ -6,7 +6,7 @@ use lib.Ieee.{Float, inf, neg, nan}
 use Rattle.floats.specs.Float.{f0, f1, f2}
 use Rattle.numbers.specs.Refusal.{accepted, rejected}
 use Rattle.candidates.specs.Candidate.{Candidate}
-use Rattle.candidates.specs.Memory.{Memory, memory, listedIds, Call, arrival, departure, check, left}
+use Rattle.candidates.specs.Memory.{places, Memory, memory, listedIds, Call, arrival, departure, check, left}
 
 abbrev pub candidate : ℕ → Float → Candidate
 candidate id density = record { id = id; density = density }
@@ -17,7 +17,7 @@ leftBy m [] = m
 leftBy m (call ∷ calls) = leftBy (left m call) calls
 
 abbrev pub emptyList : Memory
-emptyList = memory 0 (replicate 64 0) (replicate 64 f0)
+emptyList = memory 0 (replicate places 0) (replicate places f0)
 
 -- the ids of 63 and of 64 that are present: the checks go by whether an id is among them, so one id does for all
 abbrev pub roomForOne : List ℕ

@@ -12,14 +12,14 @@ ghost use Rattle.numbers.specs.Refusal.{verdict};
 ghost use Rattle.candidates.specs.Lists.{firstWhere, removeAt};
 ghost use Rattle.candidates.specs.Candidate.{isId, goesBefore};
 ghost use Rattle.candidates.specs.Memory as Memory;
-ghost use Rattle.candidates.specs.Memory.{memory, rows, isAmong, Written, Called, arrival, departure};
+ghost use Rattle.candidates.specs.Memory.{places, memory, rows, isAmong, Written, Called, arrival, departure};
 
 // How many candidates a list has room for.
-const ROOM: usize = 64;
+pub const ROOM: usize = 64;
 
-// How many places hold a candidate: a count above 64 counts as 64.
+// How many places hold a candidate: a count above the room counts as it.
 fn in_use(count: usize) -> usize
-    ensures { λ r. ⌜ r ≡ min count 64 ⌝ }
+    ensures { λ r. ⌜ r ≡ min count places ⌝ }
 {
     if count < ROOM {
         return count;
@@ -109,8 +109,8 @@ fn remove(ids: &mut [u16], densities: &mut [f64], n: usize, at: usize)
 // A candidate arrives.
 pub fn arrive(
     count: &mut usize,
-    ids: &mut [u16; 64],
-    densities: &mut [f64; 64],
+    ids: &mut [u16; ROOM],
+    densities: &mut [f64; ROOM],
     c: Candidate,
 ) -> Check
     ensures { λ r. ⌜ Called (memory (now (count .entry)) (now (ids .entry)) (now (densities .entry))) (arrival c) (verdict r) (memory (now (count .exit)) (now (ids .exit)) (now (densities .exit))) ⌝ }
@@ -126,7 +126,12 @@ pub fn arrive(
 }
 
 // The candidate that has the id departs.
-pub fn depart(count: &mut usize, ids: &mut [u16; 64], densities: &mut [f64; 64], id: u16) -> Check
+pub fn depart(
+    count: &mut usize,
+    ids: &mut [u16; ROOM],
+    densities: &mut [f64; ROOM],
+    id: u16,
+) -> Check
     ensures { λ r. ⌜ Called (memory (now (count .entry)) (now (ids .entry)) (now (densities .entry))) (departure id) (verdict r) (memory (now (count .exit)) (now (ids .exit)) (now (densities .exit))) ⌝ }
 {
     let n = in_use(*count);

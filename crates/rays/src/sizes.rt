@@ -1,5 +1,6 @@
 // The sizes of what a job holds and of its lines, each in this one place; how many entries a spectrum
-// has is the model's.
+// has and how many candidates a list are the model's.
+use candidates::list;
 use numbers::dense_spectrum::DenseSpectrum;
 
 // How many surfaces and paths are held.
@@ -7,8 +8,8 @@ pub const SURFACES: usize = 64;
 
 pub const PATHS: usize = 1024;
 
-// How many candidates the list holds, which is the model's number.
-pub const CANDIDATES: usize = 64;
+// How many candidates the list has room for.
+pub const CANDIDATES: usize = list::ROOM;
 
 // A path's numbers: four wavelengths, four powers.
 pub const COLOR: usize = 4;

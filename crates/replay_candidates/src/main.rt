@@ -3,6 +3,7 @@
 // before that the line of the first that does.
 use candidates::candidate::Candidate;
 use candidates::list;
+use candidates::list::ROOM;
 use libc::STDOUT_FILENO;
 use numbers::refusal::Check;
 use record::Head;
@@ -73,7 +74,7 @@ fn counted(mut t: Tally, same: bool) -> Tally {
 }
 
 // Runs the call of a record; the number of its answer.
-fn call(count: &mut usize, ids: &mut [u16; 64], densities: &mut [f64; 64], head: Head) -> u64 {
+fn call(count: &mut usize, ids: &mut [u16; ROOM], densities: &mut [f64; ROOM], head: Head) -> u64 {
     let kind = head.kind;
     match kind {
         Kind::Arrival => {
@@ -92,8 +93,8 @@ fn call(count: &mut usize, ids: &mut [u16; 64], densities: &mut [f64; 64], head:
 fn same(
     fd: i32,
     count: &mut usize,
-    ids: &mut [u16; 64],
-    densities: &mut [f64; 64],
+    ids: &mut [u16; ROOM],
+    densities: &mut [f64; ROOM],
     head: Head,
 ) -> bool {
     let number = call(count, ids, densities, head);
@@ -115,8 +116,8 @@ fn step_after(
     t: Tally,
     head: Head,
     count: &mut usize,
-    ids: &mut [u16; 64],
-    densities: &mut [f64; 64],
+    ids: &mut [u16; ROOM],
+    densities: &mut [f64; ROOM],
 ) -> Tally {
     let kind = head.kind;
     match kind {
@@ -130,8 +131,8 @@ fn step(
     fd: i32,
     mut t: Tally,
     count: &mut usize,
-    ids: &mut [u16; 64],
-    densities: &mut [f64; 64],
+    ids: &mut [u16; ROOM],
+    densities: &mut [f64; ROOM],
 ) -> Tally {
     let head = record::read_head(fd);
     if !head.there {
@@ -145,7 +146,7 @@ fn step(
 }
 
 // A proved loop has to end, so it counts its turns.
-fn replay(fd: i32, count: &mut usize, ids: &mut [u16; 64], densities: &mut [f64; 64]) -> Tally {
+fn replay(fd: i32, count: &mut usize, ids: &mut [u16; ROOM], densities: &mut [f64; ROOM]) -> Tally {
     let mut t = Tally {
         go: true,
         line: 0,
@@ -168,8 +169,8 @@ fn replay_file(name: &[u8]) {
         return;
     }
     let mut count: usize = 0;
-    let mut ids = [0u16; 64];
-    let mut densities = [0.0; 64];
+    let mut ids = [0u16; ROOM];
+    let mut densities = [0.0; ROOM];
     print_counts(replay(fd, &mut count, &mut ids, &mut densities));
     libc::close(fd);
 }

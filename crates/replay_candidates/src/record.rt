@@ -3,6 +3,7 @@
 //   K IIII DDDDDDDDDDDDDDDD NN CC      then CC times ` IIII DDDDDDDDDDDDDDDD`
 //
 // data/README says what each is.
+use candidates::list::ROOM;
 use text::digits;
 use text::patterns;
 use text::words::part;
@@ -77,15 +78,15 @@ fn same_entry(fd: i32, id: u16, density: f64) -> bool {
 }
 
 // Reads the entry of a place, where there is one. Past the places of a list there is none.
-fn same_at(fd: i32, ids: &[u16; 64], densities: &[f64; 64], i: usize) -> bool {
-    if i < 64 {
+fn same_at(fd: i32, ids: &[u16; ROOM], densities: &[f64; ROOM], i: usize) -> bool {
+    if i < ROOM {
         return same_entry(fd, ids[i], densities[i]);
     }
     false
 }
 
 // Whether the next `n` entries are the first of the list.
-pub fn same_entries(fd: i32, n: u64, ids: &[u16; 64], densities: &[f64; 64]) -> bool {
+pub fn same_entries(fd: i32, n: u64, ids: &[u16; ROOM], densities: &[f64; ROOM]) -> bool {
     let mut same = true;
     let mut i: usize = 0;
     while (i as u64) < n {

@@ -2,6 +2,7 @@
 use crate::records;
 use candidates::candidate::Candidate;
 use candidates::list;
+use candidates::list::ROOM;
 ghost use Rattle.candidates.specs.Memory.{memory, arrival, departure};
 ghost use Rattle.rulvimba.specs.Lists.{ListCall};
 
@@ -9,8 +10,8 @@ ghost use Rattle.rulvimba.specs.Lists.{ListCall};
 #[no_mangle]
 pub extern "C" fn rulvimba_arrive_in(
     count: &mut usize,
-    ids: &mut [u16; 64],
-    densities: &mut [f64; 64],
+    ids: &mut [u16; ROOM],
+    densities: &mut [f64; ROOM],
     c: Candidate,
 ) -> u64
     ensures { λ r. ⌜ ListCall (memory (now (count .entry)) (now (ids .entry)) (now (densities .entry))) (arrival c) r (memory (now (count .exit)) (now (ids .exit)) (now (densities .exit))) ⌝ }
@@ -22,8 +23,8 @@ pub extern "C" fn rulvimba_arrive_in(
 #[no_mangle]
 pub extern "C" fn rulvimba_depart_in(
     count: &mut usize,
-    ids: &mut [u16; 64],
-    densities: &mut [f64; 64],
+    ids: &mut [u16; ROOM],
+    densities: &mut [f64; ROOM],
     id: u16,
 ) -> u64
     ensures { λ r. ⌜ ListCall (memory (now (count .entry)) (now (ids .entry)) (now (densities .entry))) (departure id) r (memory (now (count .exit)) (now (ids .exit)) (now (densities .exit))) ⌝ }
