@@ -60,7 +60,7 @@ enum {
     RULVIMBA_REFUSED_RANDOM_NUMBER = 6, /* u or the disk number */
     RULVIMBA_REFUSED_CIRCLE_PAIR = 7,   /* c and s */
     RULVIMBA_REFUSED_FILTER = 8,        /* ks or tf */
-    RULVIMBA_REFUSED_NOT_FINITE = 9,    /* a density that is not finite, or, to be listed, is below 0 */
+    RULVIMBA_REFUSED_NOT_FINITE = 9,    /* a density that is not finite; of an arrival also one below 0 */
     RULVIMBA_REFUSED_POWER = 10,
     RULVIMBA_REFUSED_FULL = 11,         /* 64 candidates are present */
     RULVIMBA_REFUSED_ID = 12            /* an id that arrives and is present, or departs and is not */
@@ -244,7 +244,8 @@ typedef struct { uint16_t id; double density; } rulvimba_candidate;
  * Arrivals and departures are to be all that changes it. Then, after every call, it is exactly the present
  * candidates, each a single time, greatest density first and equal densities in order of arrival; count is
  * at most 64. -0.0 and 0.0 are equal densities, and each is kept as it came. A candidate that departs and
- * arrives again stands behind its equals.
+ * arrives again stands behind its equals. A list knows no measure: that its densities are all per
+ * steradian, or all probabilities, is for the caller to see to.
  */
 enum { RULVIMBA_CANDIDATES = 64 };
 typedef struct {
@@ -265,7 +266,8 @@ typedef struct {
 uint64_t rulvimba_arrive_in(size_t *count, uint16_t *ids, double *densities, rulvimba_candidate candidate);
 uint64_t rulvimba_depart_in(size_t *count, uint16_t *ids, double *densities, uint16_t id);
 
-/* The same on a list as a struct: these two only hand its parts to the two above. */
+/* The same on a list as a struct: these two only hand its parts to the two above, and are no symbols of the
+ * library. */
 static inline uint64_t rulvimba_arrive(rulvimba_candidates *list, rulvimba_candidate candidate)
 {
     return rulvimba_arrive_in(&list->count, list->ids, list->densities, candidate);

@@ -31,10 +31,10 @@ GROUNDS = {
     6: "u or the disk number is not from 0 to below 1",
     7: "c and s are not a cosine and a sine: their squares do not add up to 1 within 1e-12",
     8: "a filter is not from 0 to 1",
-    9: "the density is not finite, or below 0 (an arrival)",
+    9: "the density is not finite, or, of an arrival, below 0",
     10: "a power is not from 0 to 1",
     11: "the list is full: 64 candidates are present",
-    12: "the id is present already (an arrival), or is not present (a departure)",
+    12: "the id that arrives is present already, or the one that departs is not",
 }
 
 # What is wrong with a line that is no command.
@@ -607,7 +607,7 @@ def answered_command(job, line, figure):
         raise job.wrong(line.number, f"is {titled(found.name, found.index)}, and its figures are of "
                         f"{titled(figure.command, figure.index)}: these figures are of another job")
     if not can_have(found, figure.number):
-        raise job.wrong(line.number, "has numbers to which its figures are no answer: these figures are of another job")
+        raise job.wrong(line.number, "has numbers that can't have these figures for an answer: these figures are of another job")
     return found
 
 

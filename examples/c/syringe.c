@@ -142,8 +142,9 @@ static void print_list(const char *what, const rulvimba_candidates *list) {
     printf("\n");
 }
 
-/* the directions into which a surface sends most of the light from wo, brightest first; two lie as far to
- * either side, so that they stand as they arrived. A shutter covers the first: it is withdrawn */
+/* five directions, by the density with which a surface sends light from wo there, brightest first; two lie
+ * as far to either side, so that they are equal and stand as they arrived. A shutter covers the first: it is
+ * withdrawn */
 static void brightest(rulvimba_surface surface, const double *eta, const double *k, rulvimba_vec3 wo) {
     static const struct { uint16_t id; rulvimba_vec3 wi; } directions[] = {
         {10, {0.0, -0.28, 0.96}}, {20, {0.0, -0.6, 0.8}},      {30, {0.0, -0.8, 0.6}},

@@ -129,7 +129,7 @@ pub const CANDIDATES: usize = 64;
 /// The present candidates, greatest density first and equal ones in order of arrival: the first `count` places. What
 /// lies past them means nothing, and no call changes it but by an arrival that takes the place.
 #[repr(C)]
-#[derive(Clone, Copy, Debug, PartialEq)]
+#[derive(Clone, Copy, Debug)]
 pub struct Candidates {
     pub count: usize,
     pub ids: [u16; CANDIDATES],

@@ -120,8 +120,8 @@ fn print_list(what: &str, list: &Candidates) {
     println!("{what}:{entries}");
 }
 
-/// The directions into which a surface sends most of the light from wo, brightest first; two lie as far to either side, so
-/// that they stand as they arrived. A shutter covers the first: it is withdrawn.
+/// Five directions, by the density with which a surface sends light from wo there, brightest first; two lie as far to
+/// either side, so that they are equal and stand as they arrived. A shutter covers the first: it is withdrawn.
 fn brightest(surface: Surface, s: Spectra, wo: Vec3) {
     let directions = [
         (10, v(0.0, -0.28, 0.96)),

@@ -27,7 +27,7 @@ abbrev pub full : List ℕ
 full = replicate 64 5
 
 pub record Samples : Type 0 where
-  -- the number of an arrival, where two or three grounds meet
+  -- the number of an arrival, also where two or three grounds meet
   pub full-and-listed : check full (arrival (candidate 5 f1)) ≡ rejected 11
   pub full-and-below-zero : check full (arrival (candidate 5 (neg f1))) ≡ rejected 9
   pub listed-and-not-finite : check roomForOne (arrival (candidate 5 nan)) ≡ rejected 9

@@ -1,4 +1,4 @@
-// The commands of a job. Each reads its line, calls the model and puts one line of answer behind the
+// The commands of a job, but for those of its list (list.rt). Each reads its line, calls the model and puts one line of answer behind the
 // first `n` bytes of `out`; it answers how many bytes are used then, and what the answer is.
 use crate::list;
 use crate::replies::fault;

@@ -1,6 +1,6 @@
 // The candidate list of a job, in columns that `main` lends: how many candidates are present, their ids and
-// their densities. The crate `candidates` keeps it; here its commands are read and answered. What is in a
-// column is known to this module alone.
+// their densities. The crate `candidates` keeps it; here its commands are read and answered. Of `rays`,
+// this module alone knows what is in a column.
 use crate::replies;
 use crate::sizes;
 use candidates::candidate::Candidate;

@@ -1,5 +1,5 @@
 // The sizes of what a job holds and of its lines, each in this one place; how many entries a spectrum
-// has and how many candidates a list are the model's.
+// has, and how many candidates a list, are the model's.
 use candidates::list;
 use numbers::dense_spectrum::DenseSpectrum;
 

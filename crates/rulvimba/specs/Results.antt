@@ -1,4 +1,4 @@
--- Answers laid out for C: document 01's number, which is 0 where the call is accepted, and the values, which are zeros where there are none. Definitions only.
+-- Answers laid out for C: the number of the refusal, which is 0 where the call is accepted, and the values, which are zeros where there are none. Definitions only.
 use Prim.Native.Nat.{ℕ}
 use lib.Ieee.{Float}
 use Rattle.floats.specs.Float.{f0}

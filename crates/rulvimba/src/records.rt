@@ -1,4 +1,4 @@
-// The answers as records for C: document 01's number, which is 0 where the call is accepted, and the
+// The answers as records for C: the number of the refusal, which is 0 where the call is accepted, and the
 // values, which are zeros where there are none.
 use counter::ColorAnswer;
 use counter::ReflectAnswer;

@@ -276,7 +276,7 @@ pub fn index(text: &[u8], c: Cursor, limit: u64, fault: Fault) -> IndexRead {
     decimal(text, c, INDEX_DIGITS, limit, fault)
 }
 
-// A candidate's id.
+// A candidate's id. It is below IDS already: the remainder shows it to the cast.
 pub fn id(text: &[u8], c: Cursor) -> IdRead {
     let read = decimal(text, c, ID_DIGITS, IDS, Fault::Id);
     let next = read.next;
