@@ -13,7 +13,7 @@ use Rattle.candidates.specs.Current.{Present, settle, others, accept, af
 use Rattle.candidates.proofs.Rows.{listed-ids, listed-laid, listed-holding, count-holding, sized-holding}
 use Rattle.candidates.proofs.Passed.{passed}
 use Rattle.candidates.proofs.Order.{ready}
-use Rattle.candidates.proofs.Sorted.{every-both, length-perm, every-perm, pairwise-perm, length-part, every-part, pairwise-part, pairwise-map}
+use Rattle.candidates.proofs.Sorted.{every-both, length-perm, every-perm, pairwise-perm, length-part, every-part, pairwise-part}
 use Rattle.candidates.proofs.Present.{candidates, ids, Before, Unlike, check-perm, none-among, Known, put-in, perm-others, part-others, taken-out}
 
 -- ---- between calls: n were made, ps is who is present, cs the list

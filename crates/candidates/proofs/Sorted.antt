@@ -2,7 +2,7 @@
 use Prim.Native.Nat.{suc, _≤_}
 use native.Mathlib.Omega.{arith}
 use mathlib.Core.Path.{_≡_, refl, ap, _∙_, subst}
-use mathlib.Core.List.{List, [], _∷_, map}
+use mathlib.Core.List.{List, [], _∷_}
 use mathlib.Core.List.{List·Permᴰ, List·Permᴰ·nil, List·Permᴰ·cons, List·Permᴰ·swap, List·Permᴰ·trans}
 use mathlib.Core.List.{Sublistᴰ, Sublistᴰ·slnil, Sublistᴰ·cons, Sublistᴰ·cons-cons}
 use lib.ListN.{length}
@@ -54,15 +54,3 @@ module _ {A : Type 0} where
   pairwise-part R Sublistᴰ·slnil a = tt
   pairwise-part R (Sublistᴰ·cons d) a = pairwise-part R d (a .1)
   pairwise-part R (Sublistᴰ·cons-cons {b} e d) a = rw e (every-part (R b) d (a .0), pairwise-part R d (a .1))
-
--- ---- the list that a function makes of it
-every-map : {A B : Type 0} (P : B → Type 0) (f : A → B) (xs : List A) → Every (λ x. P (f x)) xs → Every P (map f xs)
-unfolding Every
-every-map P f [] a = tt
-every-map P f (x ∷ xs) a = (a .0, every-map P f xs (a .1))
-
-pub pairwise-map : {A B : Type 0} (R : B → B → Type 0) (f : A → B) (xs : List A)
-    → Pairwise (λ x y. R (f x) (f y)) xs → Pairwise R (map f xs)
-unfolding Pairwise
-pairwise-map R f [] a = tt
-pairwise-map R f (x ∷ xs) a = (every-map (R (f x)) f xs (a .0), pairwise-map R f xs (a .1))

@@ -1,6 +1,6 @@
 -- Samples of the rules, which fix them by values: in Current.antt `check` stands on both sides of an equation. Definitions only; they are proved in proofs/Samples.antt.
 use Prim.Native.Nat.{ℕ}
-use mathlib.Core.{Path._≡_, Bool.true, Bool.false, List.List, List.[], List._∷_}
+use mathlib.Core.{Path._≡_, Bool.false, List.List, List.[], List._∷_}
 use lib.ListN.{replicate}
 use lib.Ieee.{Float, inf, neg, nan}
 use Rattle.floats.specs.Float.{f0, f1, f2}
