@@ -2,6 +2,7 @@
 pub mod WholeRoot
 pub mod RootDigits
 pub mod RootBits
+pub mod RootOperand
 pub mod RootGuess
 pub mod RootOrZero
 pub mod NearestRoot

@@ -1,4 +1,5 @@
 -- What the contracts of the crate cite: definitions only, each with its source.
 pub mod Float
 pub mod SquareRoot
+pub mod RootDigits
 pub mod RootSteps

@@ -1,16 +1,32 @@
--- What the parts of the square root's computation promise each other, on natural
--- numbers. Definitions only; the root itself is defined in SquareRoot.antt.
-use Prim.Native.Nat.{ℕ, _+_, _*_, _/_, _^_, _≤_, _<_}
+-- What the parts of the square root's computation promise each other. Definitions
+-- only; the root itself is defined in SquareRoot.antt, its digits in RootDigits.antt.
+use Prim.Native.Nat.{ℕ, _+_, _-_, _*_, _/_, _^_, _≤_, _<_}
 use mathlib.Core.Path.{_≡_}
 use lib.Dec.{T}
-use lib.Ieee.{Float, binary64, toBits}
+use lib.Ieee.{Float, binary64, toBits, fits}
 use lib.Ieee.Positive.{positive}
-use Rattle.floats.specs.SquareRoot.{rootOfUnits}
+use Rattle.floats.specs.SquareRoot.{sqrt, Size}
+pub use Rattle.floats.specs.declared.square_root.Operand.{Operand}
 
--- s is the whole root of n
-abbrev pub Root : ℕ → ℕ → Type 0
-Root s n = (s * s ≤ n) × (n < (s + 1) * (s + 1))
+-- ---- the operand
+-- m has 53 or 54 binary digits, the last of 54 being 0, and h is the half exponent of a value above 0
+abbrev pub InRange : Operand → Type 0
+InRange a = (2 ^ 52 ≤ a .m) × (a .m ≤ 2 ^ 54 - 2) × (511 ≤ a .h) × (a .h ≤ 1559)
 
+-- a is the operand of x, a value of binary64 above 0: x = m * 4 ^ h * 2 ^ -2148, x being n * 2 ^ -1074
+pub record Scaled (x : Float) (a : Operand) : Type 0 where
+  pub holds : T (fits binary64 x)
+  pub above : T (positive x)
+  pub range : InRange a
+  pub n : ℕ
+  pub size : Size x n
+  pub same : n * 2 ^ 1074 ≡ a .m * 4 ^ (a .h)
+
+-- r is the root of the value that has this operand
+abbrev pub RootOf : Operand → Float → Type 0
+RootOf a r = (x : Float) → Scaled x a → r ≡ sqrt x
+
+-- ---- the guess
 -- q is the whole number nearest to the root of n: q - 1/2 < √n < q + 1/2, squared
 abbrev pub Nearest : ℕ → ℕ → Type 0
 Nearest q n = (q * q < n + q) × (n ≤ q * q + q)
@@ -18,14 +34,3 @@ Nearest q n = (q * q < n + q) × (n ≤ q * q + q)
 -- x is above 0 and normal: the exponent's field of its pattern is neither 0 nor the largest
 abbrev pub IsNormal : Float → Type 0
 IsNormal x = T (positive x) × (0 < toBits binary64 x / 2 ^ 52) × (toBits binary64 x / 2 ^ 52 < 2047)
-
--- r is the root of the value that is n units, wherever n * 2 ^ 1074 is m * 2 ^ e
-abbrev pub RootFrom : ℕ → ℕ → Float → Type 0
-RootFrom m e r = (n : ℕ) → n < 2 ^ 2098 → n * 2 ^ 1074 ≡ m * 2 ^ e → r ≡ rootOfUnits binary64 n
-
--- m is t shifted up by z places, to 53 binary digits
-pub record Normal (t m z : ℕ) : Type 0 where
-  pub same : m ≡ t * 2 ^ z
-  pub low : 2 ^ 52 ≤ m
-  pub high : m < 2 ^ 53
-  pub few : z ≤ 52

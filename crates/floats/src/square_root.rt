@@ -1,14 +1,16 @@
-// IEEE 754's square root, correctly rounded, of every value. A guess is checked by exact arithmetic
-// on its digits; where it is refused, as it is for a subnormal, the root is computed digit by digit.
+// IEEE 754's square root, correctly rounded, of every value. A value above 0 is scaled once, to an operand;
+// a guess is checked by exact arithmetic on the operand, and where it is refused the root is computed from
+// the same operand digit by digit, as it is for a subnormal, for which there is no guess.
 ghost use mathlib.Core.Path.{_≡_};
 ghost use mathlib.Core.Bool.{cond};
-ghost use Prim.Native.Nat.{_<_, _≤_, _+_, _-_, _*_, _^_};
+ghost use Prim.Native.Nat.{_<_, _≤_, _+_, _*_, _^_};
 ghost use lib.Dec.{T};
 ghost use lib.Ieee.{binary64, fits};
 ghost use lib.Ieee.Positive.{positive};
 ghost use Rattle.floats.specs.Float.{max, f0};
 ghost use Rattle.floats.specs.SquareRoot.{sqrt};
-ghost use Rattle.floats.specs.RootSteps.{Root, RootFrom, Normal, IsNormal, Nearest};
+ghost use Rattle.floats.specs.RootDigits.{digit, two, after};
+ghost use Rattle.floats.specs.RootSteps.{InRange, Scaled, RootOf, IsNormal, Nearest};
 
 // 2 ^ 52. In the pattern of a value that is not negative, bits / HIDDEN is the field of the exponent
 // and bits % HIDDEN the digits that are stored; a normal value has HIDDEN, its first digit, besides.
@@ -31,6 +33,48 @@ const FIRST_LEFT: u64 = 0x40000000;
 
 const SECOND_LEFT: u64 = 0x20000000;
 
+// ---- the operand: a value above 0 is scaled once, before the first digit
+
+// A value above 0 is m * 4 ^ h times 2 ^ -2148, m being of 53 or 54 binary digits.
+struct Operand {
+    m: u64,
+    h: u64,
+}
+
+// How many places up a number of at most 52 digits has 53.
+fn places(t: u64) -> u64
+    requires { ⌜ (0 < t) × (t < 2 ^ 52) ⌝ }
+    ensures { λ r. ⌜ (r ≤ 52) × (2 ^ 52 ≤ t * 2 ^ r) × (t * 2 ^ r < 2 ^ 53) ⌝ }
+{
+    (u64::leading_zeros(t) - 11) as u64
+}
+
+// The operand of d * 2 ^ e times 2 ^ -2148, d being of 53 digits: an odd exponent gives it one more.
+fn placed(d: u64, e: u64) -> Operand
+    requires { ⌜ (2 ^ 52 ≤ d) × (d < 2 ^ 53) × (1022 ≤ e) × (e ≤ 3119) ⌝ }
+    ensures { λ r. ⌜ InRange r × (d * 2 ^ e ≡ r .m * 4 ^ (r .h)) ⌝ }
+{
+    Operand {
+        m: d * (e % 2 + 1),
+        h: e / 2,
+    }
+}
+
+// The operand of a finite value above 0, by its bit pattern. A subnormal's digits are shifted up to 53, all at once.
+fn scale(x: f64) -> Operand
+    requires { ⌜ T (positive x) ⌝ }
+    ensures { λ r. ⌜ Scaled x r ⌝ }
+{
+    let bits = f64::to_bits(x);
+    let f = bits / HIDDEN;
+    let t = bits % HIDDEN;
+    if f == 0 {
+        let z = places(t);
+        return placed(t << z, 1074 - z);
+    }
+    placed(t + HIDDEN, f + 1073)
+}
+
 // ---- by digits: no branch but the loop, so that the time does not depend on the digits
 
 // 1 for true: a digit with no branch.
@@ -40,88 +84,68 @@ fn bit(b: bool) -> u64
     if b { 1 } else { 0 }
 }
 
-// The whole root of m * 2 ^ 54, by its 54 binary digits. Each turn takes two more digits of m * 2 ^ 54
-// from the top of w; rem is what root * root leaves of the digits taken so far.
-fn digits(m: u64) -> u64
-    requires { ⌜ m < 2 ^ 54 ⌝ }
-    ensures { λ r. ⌜ Root r (m * 2 ^ 54) ⌝ }
+// The root of the number that the bits taken so far form, and what its square leaves of it.
+struct RootRem {
+    root: u64,
+    rem: u64,
+}
+
+// One digit more, from two bits more. No sum here wraps at 56 digits, the most that 02 has.
+fn digit(root: u64, rem: u64, two: u64) -> RootRem
+    requires { ⌜ (root < 2 ^ 56) × (rem ≤ 2 * root) × (two < 4) ⌝ }
+    ensures { λ r. ⌜ r ≡ digit root rem two ⌝ }
 {
-    let mut root: u64 = 0;
-    let mut rem: u64 = 0;
-    let mut w: u64 = m;
+    let x = 4 * rem + two;
+    let t = 4 * root + 1;
+    let c = bit(t <= x);
+    RootRem {
+        root: 2 * root + c,
+        rem: x - t * c,
+    }
+}
+
+// The two bits of m * 2 ^ 52 that the digit behind i others takes: those of m by their places, from the top, and then zeros.
+fn two_bits(m: u64, i: u64) -> u64
+    requires { ⌜ i < 53 ⌝ }
+    ensures { λ r. ⌜ r ≡ two 53 (m * 2 ^ 52) i ⌝ }
+{
+    if i < 27 { (m >> (52 - 2 * i)) % 4 } else { 0 }
+}
+
+// The whole root of m * 2 ^ 52, by its 53 binary digits, and the remainder.
+fn digits(m: u64) -> RootRem
+    requires { ⌜ m < 2 ^ 54 ⌝ }
+    ensures { λ r. ⌜ r ≡ after 53 (m * 2 ^ 52) 53 ⌝ }
+{
+    let mut s = RootRem { root: 0, rem: 0 };
     let mut i: u64 = 0;
-    while i < 54 {
-        let x = rem * 4 + w / HIDDEN;
-        let t = root * 4 + 1;
-        w = w % HIDDEN * 4;
-        let c = bit(t <= x);
-        rem = x - t * c;
-        root = root * 2 + c;
+    while i < 53 {
+        s = digit(s.root, s.rem, two_bits(m, i));
         i += 1;
     }
-    root
+    s
 }
 
-struct Norm {
-    m: u64,
-    z: u64,
-}
-
-// A number of fewer than 53 digits, shifted up to 53, and by how many places: a subnormal's digits.
-fn normal(t: u64) -> Norm
-    requires { ⌜ (0 < t) × (t < 2 ^ 52) ⌝ }
-    ensures { λ r. ⌜ Normal t (r .m) (r .z) ⌝ }
+// The whole number nearest to the root of m * 2 ^ 52: the whole root, or one more where the remainder is
+// above it, the root being past the middle then. In the middle none is: its square is no whole number.
+fn nearest(m: u64) -> u64
+    requires { ⌜ (0 < m) × (m < 2 ^ 54) ⌝ }
+    ensures { λ r. ⌜ Nearest r (m * 2 ^ 52) ⌝ }
 {
-    let mut m: u64 = t;
-    let mut z: u64 = 0;
-    while m < HIDDEN {
-        m = m * 2;
-        z += 1;
-    }
-    Norm { m, z }
+    let s = digits(m);
+    s.root + bit(s.root < s.rem)
 }
 
-// The root of m * 4 ^ h times 2 ^ -2148, m being of 53 or 54 digits: half of the 54 digits, rounded up.
-// No test of the remainder: a root with 54 digits and none after them is even, since m * 2 ^ 54 is,
-// so a half is never met. The product is exact, its second factor being a power of two.
-fn scaled(m: u64, h: u64) -> f64
-    requires { ⌜ (2 ^ 52 ≤ m) × (m < 2 ^ 54) × (511 ≤ h) × (h ≤ 1559) ⌝ }
-    ensures { λ r. ⌜ RootFrom m (h + h) r ⌝ }
+// The root of the value that has this operand, put together from its exponent and its 53 digits.
+fn root_of(a: Operand) -> f64
+    requires { ⌜ InRange a ⌝ }
+    ensures { λ r. ⌜ RootOf a r ⌝ }
 {
-    let q = (digits(m) + 1) / 2;
-    (q as f64) * f64::from_bits((h - 77) * HIDDEN)
+    f64::from_bits((a.h - 26) * HIDDEN + nearest(a.m))
 }
 
-// The root of m * 2 ^ e times 2 ^ -2148, m being of 53 digits: an odd exponent gives m a digit.
-fn placed(m: u64, e: u64) -> f64
-    requires { ⌜ (2 ^ 52 ≤ m) × (m < 2 ^ 53) × (1022 ≤ e) × (e ≤ 3119) ⌝ }
-    ensures { λ r. ⌜ RootFrom m e r ⌝ }
-{
-    if e % 2 == 0 {
-        scaled(m, e / 2)
-    } else {
-        scaled(m * 2, e / 2)
-    }
-}
-
-// The root of a finite value above 0, by its bit pattern.
-fn root_positive(x: f64) -> f64
-    requires { ⌜ T (positive x) ⌝ }
-    ensures { λ r. ⌜ r ≡ sqrt x ⌝ }
-{
-    let bits = f64::to_bits(x);
-    let f = bits / HIDDEN;
-    let t = bits % HIDDEN;
-    if f == 0 {
-        let n = normal(t);
-        placed(n.m, 1074 - n.z)
-    } else {
-        placed(t + HIDDEN, f + 1073)
-    }
-}
-
-// The root of every value, by its digits.
-fn by_digits(x: f64) -> f64
+// The root of every value, by its digits alone.
+pub fn by_digits(x: f64) -> f64
     ensures { λ r. ⌜ r ≡ sqrt x ⌝ }
 {
     if x != x {
@@ -136,7 +160,7 @@ fn by_digits(x: f64) -> f64
     if x == f64::from_bits(INFINITY) {
         return x;
     }
-    root_positive(x)
+    root_of(scale(x))
 }
 
 // ---- by a guess: no division, and one pass
@@ -214,35 +238,34 @@ fn is_nearest(m: u64, q: u64) -> bool
     w - t <= 2 * q
 }
 
-// Whether the guess g is the root of x: its exponent is half that of x, and its digits are the nearest to
-// the root of m, which is the digits of x, and twice them where the exponent is odd.
-fn is_root(g: f64, x: f64) -> bool
-    requires { ⌜ IsNormal x × T (fits binary64 g) ⌝ }
-    ensures { λ r. ⌜ (T r → g ≡ sqrt x) ⌝ }
+// Whether the guess g is the root of the value that has this operand: its exponent is the root's, and its digits are
+// the nearest to the root of m.
+fn is_root(g: f64, a: Operand) -> bool
+    requires { ⌜ T (fits binary64 g) × InRange a ⌝ }
+    ensures { λ r. ⌜ (T r → RootOf a g) ⌝ }
 {
     if g != g {
         return false;
     }
-    let bits = f64::to_bits(x);
-    let f = bits / HIDDEN;
     let p = f64::to_bits(g);
-    if p / HIDDEN != (f + 1023) / 2 {
+    if p / HIDDEN != a.h - 25 {
         return false;
     }
-    let m = (bits % HIDDEN + HIDDEN) * (2 - f % 2);
-    is_nearest(m, p % HIDDEN + HIDDEN)
+    is_nearest(a.m, p % HIDDEN + HIDDEN)
 }
 
 // IEEE 754's square root. Where the guess is right it is itself what is returned, so that what needs
-// the root does not wait for the check.
+// the root does not wait for the check. The check and, where it refuses, the digits take the same operand.
 pub fn sqrt(x: f64) -> f64
     ensures { λ r. ⌜ r ≡ sqrt x ⌝ }
 {
     if is_normal(x) {
         let g = guess(x);
-        if is_root(g, x) {
+        let a = scale(x);
+        if is_root(g, a) {
             return g;
         }
+        return root_of(a);
     }
     by_digits(x)
 }

@@ -17,11 +17,10 @@ use lib.Ieee.Digits.{size-lt, size-le, size-reaches}
 use lib.Ieee.Order.{drop, kept}
 use Rattle.floats.specs.Float.{f0, isFinite}
 use Rattle.floats.specs.SquareRoot.{isqrt, rootOfUnits, squareRoot, sqrt, Size, Nearer, NearestRoot, SquareRoot}
-use Rattle.floats.specs.RootSteps.{Root}
 use Rattle.floats.proofs.Rounding.{rnd, below-or-from, pow-part, size-above}
 use Rattle.floats.proofs.Rounding.Units.{U, O, U-is, O-is, Is, mag, Held, is-of, units-pos}
-use Rattle.floats.proofs.square_root.WholeRoot.{isqrt-root, even-root, rootOf-value, digits-of-root}
-use Rattle.floats.proofs.square_root.RootBits.{rootOf-fits, root-of, below-zero}
+use Rattle.floats.proofs.square_root.WholeRoot.{Root, isqrt-root, even-root, rootOf-value, digits-of-root}
+use Rattle.floats.proofs.square_root.RootBits.{rootOf-fits, root-of, size-of, below-zero}
 use Rattle.floats.proofs.Rounding.NonNegative.{lt-of-pos}
 
 -- ---- numbers of 53 digits: from 2 ^ 52 steps of 2 ^ j on they are multiples of the step
@@ -219,10 +218,6 @@ nearest-units n c v h = (up-side, λ (l : c < rootUnits v). down-side l (parity 
             omega arith
 
 -- ---- values
-size-of : (x : Float) (s : Bool) (n : ℕ) → Is x s n → Size x n
-unfolding U
-size-of (fin t m e) s n h = h .1
-
 finite-of : (x : Float) (s : Bool) (n : ℕ) → Is x s n → T (isFinite x)
 unfolding isFinite
 finite-of (fin t m e) s n h = tt

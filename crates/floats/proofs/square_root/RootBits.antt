@@ -1,33 +1,30 @@
 -- The parts of the square root's code on plain values: what each function computes is the root that specs/SquareRoot.antt defines.
 -- Proved: a value by its bit pattern (`bits-at`), and which patterns are no NaN's (`clean`);
--- the root of m * 4 ^ h from 54 digits (`root-at`), as the product that `scaled` returns (`scaled-root`); the parity in `placed`;
--- the loop of `normal`; the units of a value above 0 from its pattern (`opened`),
--- with which `root_positive` is right (`low-root`, `high-root`);
+-- the root of m * 4 ^ h has the digits that are nearest to the root of m (`root-at`, `nearest-pattern`); a value's units (`root-of`, `size-of`);
 -- and the values that have no digits to compute (`nan-case`, `negative-case`, `zero-case`, `inf-case`).
 use mathlib.Core.Path.{_≡_, refl, sym, ap, _∙_, subst}
-use mathlib.Core.Logic.{_⊎_, inl, inr}
+use mathlib.Core.Logic.{inl, inr}
 use Prim.Native.Nat.{ℕ, zero, suc, _+_, _-_, _*_, _/_, _%_, _^_, _≤_, _<_}
-use native.Mathlib.Nat.{le-trans, le-of-eq, lt-of-le-of-lt, lt-of-lt-of-le, lt-irrefl, mul-assoc, mul-le-mul-right, mul-le-mul, mul-one, one-mul, mul-pos, mul-div-cancel, eq-zero-or-pos, le-div-iff-mul-le, zero-lt-suc}
+use native.Mathlib.Nat.{le-trans, lt-of-le-of-lt, lt-of-lt-of-le, lt-irrefl, mul-assoc, mul-le-mul-left, mul-le-mul-right, mul-le-mul, mul-pos, zero-lt-suc}
 use native.Mathlib.Omega.{arith}
 use mathlib.Core.Bool.{Bool, true, false, not}
 use lib.IntN.{ℤ, pos}
-use lib.Dec.{T, leb, eqb, le→leb, ltb→lt, lt→ltb, eqb→eq, not-T, lit<}
-use lib.Pow.{pow-add, pow-pos, pow-mono}
-use lib.Ieee.{Float, nan, inf, fin, Format, binary64, ofFields, ofBits, toBits, nanBits, isNan, ofInt, inFloat, mul, div, ne, le, lt, eq, round, fits, up, down, size}
+use lib.Dec.{T, leb, eqb, ltb→lt, lt→ltb, eqb→eq, not-T, lit<, lit≤}
+use lib.Pow.{pow-add, pow-mono}
+use lib.Ieee.{Float, nan, inf, fin, Format, binary64, ofFields, ofBits, nanBits, div, ne, le, lt, eq, fits, up, down}
 use lib.Ieee.Compare.{differs-from-itself}
-use lib.Ieee.Digits.{size-le, size-reaches}
-use lib.Ieee.Order.{drop, kept}
 use lib.Ieee.Positive.{positive}
-use lib.Ieee.Bits.{is-false, nanBits-above}
+use lib.Ieee.Bits.{is-false, nanBits-above, ofBits-fits}
 use lib.Arith.{lt→nleb, le→nltb}
 use lib.Ieee.Exact.{odd-sign}
-use lib.Ieee.Fits.{mul-fits, round-fits, kept-lt, up-pos}
-use Rattle.floats.specs.SquareRoot.{isqrt, sticky, rootOfUnits, squareRoot}
-use Rattle.floats.specs.RootSteps.{Root, RootFrom, Normal}
-use Rattle.floats.proofs.Rounding.{rnd, rnd-same, below-or-from}
-use Rattle.floats.proofs.Rounding.Units.{U, O, O-is, U-is, U-pos, Is, mag, is-of, below→test, test→below, Held, mul-is, round-units, unique, pattern, bits-of, units-pos}
-use Rattle.floats.proofs.Rounding.NonNegative.{int-is, held-of, none-below}
-use Rattle.floats.proofs.square_root.WholeRoot.{rootOf-value, rootOf-is, digits-of-root}
+use lib.Ieee.Fits.{round-fits, up-pos}
+use Rattle.floats.specs.SquareRoot.{isqrt, sticky, rootOfUnits, squareRoot, Size}
+use Rattle.floats.specs.RootSteps.{Nearest}
+use Rattle.floats.proofs.Rounding.{below-or-from}
+use Rattle.floats.proofs.Rounding.Units.{U, O, O-is, U-is, Is, mag, below→test, test→below, unique}
+use Rattle.floats.proofs.Rounding.NonNegative.{none-below}
+use Rattle.floats.proofs.square_root.WholeRoot.{Root, isqrt-root, sq-lt, rootOf-value, rootOf-is, digits-of-root}
+use Rattle.floats.proofs.square_root.RootDigits.{four-two}
 use denote.Floats.{passes}
 
 abbrev B : Format
@@ -38,11 +35,11 @@ abbrev pub inf-pattern : ℕ
 inf-pattern = 2047 * 2 ^ 52
 
 -- ---- the root of m * 2 ^ 54 has 54 digits
-pub digits-54 : (Q m : ℕ) → Root Q (m * 2 ^ 54) → 2 ^ 52 ≤ m → m < 2 ^ 54 → (2 ^ 53 ≤ Q) × (Q < 2 ^ 54)
+digits-54 : (Q m : ℕ) → Root Q (m * 2 ^ 54) → 2 ^ 52 ≤ m → m < 2 ^ 54 → (2 ^ 53 ≤ Q) × (Q < 2 ^ 54)
 digits-54 Q m r l u = digits-of-root Q (m * 2 ^ 54) r (omega arith) (omega arith)
 
 -- ---- a value by the field of its exponent and its digits; and which patterns are no NaN's
-pub bits-at : (b x t : ℕ) → b ≡ suc x * 2 ^ 52 + t → suc x < 2047 → t < 2 ^ 52 → Is (ofBits B b) false ((2 ^ 52 + t) * 2 ^ x)
+bits-at : (b x t : ℕ) → b ≡ suc x * 2 ^ 52 + t → suc x < 2047 → t < 2 ^ 52 → Is (ofBits B b) false ((2 ^ 52 + t) * 2 ^ x)
 unfolding ofBits ofFields U
 bits-at b x t e h k =
     let sign : leb (2 ^ 63) b ≡ false = is-false (leb (2 ^ 63) b) (lt→nleb (2 ^ 63) b (omega arith)) in
@@ -58,52 +55,36 @@ bits-at b x t e h k =
 pub clean : (b : ℕ) → b ≤ inf-pattern → T (not (nanBits B b))
 clean b h = rw (nanBits-above B b) (le→nltb inf-pattern (b % 2 ^ 63) (omega arith))
 
--- ---- a power of two, and a whole number times it
-pow-at : (x : ℕ) → suc x < 2047 → Is (ofBits B (suc x * 2 ^ 52)) false (2 ^ 52 * 2 ^ x)
-pow-at x h = bits-at (suc x * 2 ^ 52) x 0 (omega arith) h (lit< tt)
+-- ---- the root of an operand, by its digits
+-- r is the root of the value that is n units, wherever n * 2 ^ 1074 is m * 4 ^ h
+abbrev pub RootFrom : ℕ → ℕ → Float → Type 0
+RootFrom m h r = (n : ℕ) → n < 2 ^ 2098 → n * 2 ^ 1074 ≡ m * 4 ^ h → r ≡ rootOfUnits B n
 
--- ---- q times 2 ^ (x - 1022), exactly, where the product is a value of the format
-pub times-pow : (q x n : ℕ) → q ≤ 2 ^ 53 → suc x < 2047 → n ≡ q * (2 ^ 52 * 2 ^ x) → Held n
-    → Is (mul B (ofInt B (pos q)) (ofBits B (suc x * 2 ^ 52))) false n
-times-pow q x n h k e held =
-    let p = 2 ^ 52 * 2 ^ x in
-    let UU = mul-pos U-pos U-pos in
-    let r : rnd 53 (q * U * p * U) (U * U) ≡ n =
-    rnd-same 53 (q * U * p * U) (U * U) n 1 (lit< tt) UU (lit< tt) (group q U p ∙ ap (λ (z : ℕ). z * (U * U)) (sym e)) ∙ held .0 in
-    subst (λ (z : Float). Is z false n)
-    (sym (mul-is (ofInt B (pos q)) (ofBits B (suc x * 2 ^ 52)) false false (q * U) p (int-is q h) (pow-at x k)))
-    (subst (λ (z : ℕ). Is (round B false (q * U * p) (U * U)) false z) r
-    (round-units false (q * U * p) (U * U) (subst (λ (z : ℕ). z < O) (sym r) (held .1))))
-  where
-    group : (q u p : ℕ) → q * u * p * u * 1 ≡ q * p * (u * u)
-    group q u p = omega arith
-
--- ---- `scaled`
 pub rootOf-fits : (n : ℕ) → T (fits B (rootOfUnits B n))
 rootOf-fits n =
     subst (λ (z : Float). T (fits B z)) (sym (rootOf-is n))
     (round-fits B false (2 * isqrt 2098 (n * 2 ^ 1074) + sticky (isqrt 2098 (n * 2 ^ 1074)) (n * 2 ^ 1074)) (2 * U))
 
 -- the root of the value that is n units, n * U being m * 4 ^ h: half of the 54 digits Q, rounded up, is the 53 digits of it
-pub root-at : (Q m h n : ℕ) → Root Q (m * 2 ^ 54) → 2 ^ 52 ≤ m → m < 2 ^ 54 → 511 ≤ h → h ≤ 1559 → n < 2 ^ 2098
-    → n * 2 ^ 1074 ≡ m * 2 ^ (h + h)
-    → ((Q + 1) / 2 ≤ 2 ^ 53) × Is (rootOfUnits B n) false ((Q + 1) / 2 * 2 ^ (h - 26))
+root-at : (Q m h n : ℕ) → Root Q (m * 2 ^ 54) → 2 ^ 52 ≤ m → m < 2 ^ 54 → 511 ≤ h → h ≤ 1559 → n < 2 ^ 2098
+    → n * 2 ^ 1074 ≡ m * 4 ^ h
+    → Is (rootOfUnits B n) false ((Q + 1) / 2 * 2 ^ (h - 26))
 root-at Q m h n r l u lo hi nO e =
     let W = m * 2 ^ 54 in
     let b = h - 27 in
     let d = digits-54 Q m r l u in
-    let qs = half Q (d .1) in
     let to : (Q + 1) / 2 * 2 ^ (b + 1) < O =
     subst (λ (z : ℕ). (Q + 1) / 2 * 2 ^ (b + 1) < z) (sym O-is)
-    (lt-of-le-of-lt (mul-le-mul qs (pow-mono (high h hi))) (lit< {m = 2 ^ 53 * 2 ^ 1533} {n = 2 ^ 2098} tt)) in
+    (lt-of-le-of-lt (mul-le-mul (half Q (d .1)) (pow-mono (high h hi))) (lit< {m = 2 ^ 53 * 2 ^ 1533} {n = 2 ^ 2098} tt)) in
     let e' : n * U ≡ W * (2 ^ b * 2 ^ b) =
     ap (λ (z : ℕ). n * z) U-is
     ∙ e
+    ∙ ap (λ (z : ℕ). m * z) (four-two h)
     ∙ ap (λ (z : ℕ). m * 2 ^ z) (omega arith)
     ∙ ap (λ (z : ℕ). m * z) (pow-add 2 54 (b + b) ∙ ap (λ (z : ℕ). 2 ^ 54 * z) (pow-add 2 b b))
     ∙ sym (mul-assoc m (2 ^ 54) (2 ^ b * 2 ^ b)) in
     let v = rootOf-value n Q W b (subst (λ (z : ℕ). n < z) (sym O-is) nO) e' r (even m) (d .0) (d .1) to in
-    (qs, subst (λ (z : ℕ). Is (rootOfUnits B n) false ((Q + 1) / 2 * 2 ^ z)) (omega arith) v)
+    subst (λ (z : ℕ). Is (rootOfUnits B n) false ((Q + 1) / 2 * 2 ^ z)) (omega arith) v
   where
     half : (Q : ℕ) → Q < 2 ^ 54 → (Q + 1) / 2 ≤ 2 ^ 53
     half Q h = omega arith
@@ -114,172 +95,70 @@ root-at Q m h n r l u lo hi nO e =
     even : (m : ℕ) → m * 2 ^ 54 % 2 ≡ 0
     even m = omega arith
 
-pub scaled-root : (Q m h : ℕ) → Root Q (m * 2 ^ 54) → 2 ^ 52 ≤ m → m < 2 ^ 54 → 511 ≤ h → h ≤ 1559
-    → RootFrom m (h + h) (mul B (ofInt B (pos ((Q + 1) / 2))) (ofBits B ((h - 77) * 2 ^ 52)))
-scaled-root Q m h r l u lo hi n nO e =
-    let x = h - 78 in
-    let q = (Q + 1) / 2 in
-    let t = q * 2 ^ (h - 26) in
-    let v = root-at Q m h n r l u lo hi nO e in
-    let held = held-of (rootOfUnits B n) false t (rootOf-fits n) (v .1) in
-    let g : t ≡ q * (2 ^ 52 * 2 ^ x) = ap (λ (z : ℕ). q * 2 ^ z) (place h lo) ∙ ap (λ (z : ℕ). q * z) (pow-add 2 52 x) in
-    let k = times-pow q x t (v .0) (omega arith) g held in
-    ap (λ (z : ℕ). mul B (ofInt B (pos q)) (ofBits B (z * 2 ^ 52))) (down-one h lo)
-    ∙ unique (mul B (ofInt B (pos q)) (ofBits B (suc x * 2 ^ 52))) (rootOfUnits B n) false t
-    (mul-fits B (ofInt B (pos q)) (ofBits B (suc x * 2 ^ 52))) (rootOf-fits n) k (v .1)
+-- the nearest whole root is half the root of four times the number, rounded up
+nearest-is-half : (q Q n : ℕ) → Nearest q n → Root Q (n * 4) → (Q + 1) / 2 ≡ q
+nearest-is-half zero Q n h r = absurd (let a = h .0 in let b = h .1 in omega arith)
+nearest-is-half (suc s) Q n h r = omega (arith, sq-lt Q (2 * s + 3) (omega arith), sq-lt (2 * s + 1) (Q + 1) (omega arith))
+
+-- so the pattern that is put together is the root's
+pub within : (q m : ℕ) → Nearest q (m * 2 ^ 52) → 2 ^ 52 ≤ m → m ≤ 2 ^ 54 - 2 → (2 ^ 52 ≤ q) × (q < 2 ^ 53)
+within q m h l u = (
+  elim (below-or-from q (2 ^ 52)) [ inl g ↦ absurd (low g) | inr g ↦ g ],
+  elim (below-or-from q (2 ^ 53)) [ inl g ↦ g | inr g ↦ absurd (high g) ],
+)
   where
-    place : (h : ℕ) → 511 ≤ h → h - 26 ≡ 52 + (h - 78)
-    place h k = omega arith
+    low : q < 2 ^ 52 → ⊥
+    low g = let a = h .1 in let p : q * q ≤ q * (2 ^ 52 - 1) = mul-le-mul-left q (omega arith) in omega arith
 
-    down-one : (h : ℕ) → 511 ≤ h → h - 77 ≡ suc (h - 78)
-    down-one h k = omega arith
+    high : 2 ^ 53 ≤ q → ⊥
+    high g =
+        omega (arith, subst (λ (z : ℕ). z ≤ q * q) (less q) (mul-le-mul-left q g), le-trans (mul-le-mul-right (2 ^ 52) u) (le-trans {m = 2 ^ 53 * (2 ^ 53 - 1)} (lit≤ tt) (mul-le-mul-right (2 ^ 53 - 1) g)))
+      where
+        less : (q : ℕ) → q * 2 ^ 53 ≡ q * (2 ^ 53 - 1) + q
+        less q = omega arith
 
-pub scaled-nan : (h : ℕ) → 511 ≤ h → h ≤ 1559 → T (not (nanBits B ((h - 77) * 2 ^ 52)))
-scaled-nan h lo hi = clean ((h - 77) * 2 ^ 52) (omega arith)
-
-pub scaled-cast : (Q : ℕ) → Q < 2 ^ 54 → T (inFloat B (pos ((Q + 1) / 2)))
-unfolding inFloat
-scaled-cast Q h = le→leb ((Q + 1) / 2) (2 ^ 53) (omega arith)
-
--- ---- `placed`
-pub placed-even : (m e : ℕ) (r : Float) → e % 2 ≡ 0 → RootFrom m (e / 2 + e / 2) r → RootFrom m e r
-placed-even m e r h f = subst (λ (z : ℕ). RootFrom m z r) (let k : e / 2 + e / 2 ≡ e = omega arith in k) f
-
-pub placed-odd : (m e : ℕ) (r : Float) → (e % 2 ≡ 0 → ⊥) → RootFrom (m * 2) (e / 2 + e / 2) r → RootFrom m e r
-placed-odd m e r h f n nO q =
-    f n nO
-    (q
-    ∙ ap (λ (z : ℕ). m * 2 ^ z) (omega (arith, last (e % 2) refl))
-    ∙ ap (λ (z : ℕ). m * z) (pow-add 2 1 (e / 2 + e / 2))
-    ∙ sym (mul-assoc m 2 (2 ^ (e / 2 + e / 2))))
+pub nearest-pattern : (q m h : ℕ) → Nearest q (m * 2 ^ 52) → 2 ^ 52 ≤ m → m ≤ 2 ^ 54 - 2 → 511 ≤ h → h ≤ 1559
+    → RootFrom m h (ofBits B ((h - 26) * 2 ^ 52 + q))
+nearest-pattern q m h near l u lo hi n nO e =
+    let W = m * 2 ^ 54 in
+    let x = h - 26 in
+    let Q = isqrt 54 W in
+    let r = isqrt-root 54 W (lt-of-lt-of-le (few m u) (lit≤ tt)) in
+    let qe : (Q + 1) / 2 ≡ q = nearest-is-half q Q (m * 2 ^ 52) near (subst (λ (z : ℕ). Root Q z) (omega arith) r) in
+    let i = within q m near l u in
+    let v = root-at Q m h n r l (strict m u) lo hi nO e in
+    let p = x * 2 ^ 52 + q in
+    let k = bits-at p x (q - 2 ^ 52) (carry q x (i .0)) (under h hi) (rest q (i .1)) in
+    unique (ofBits B p) (rootOfUnits B n) false (q * 2 ^ x) (ofBits-fits B p) (rootOf-fits n)
+    (subst (λ (z : ℕ). Is (ofBits B p) false (z * 2 ^ x)) (back q (i .0)) k)
+    (subst (λ (z : ℕ). Is (rootOfUnits B n) false (z * 2 ^ x)) qe v)
   where
-    last : (r : ℕ) → e % 2 ≡ r → e % 2 ≡ 1
-    last zero g = absurd (h g)
-    last (suc r) g = omega arith
+    few : (m : ℕ) → m ≤ 2 ^ 54 - 2 → m * 2 ^ 54 < (2 ^ 54 - 1) * 2 ^ 54 + 1
+    few m k = omega arith
 
--- ---- `normal`
-pub record NormInv (t m z : ℕ) : Type 0 where
-  pub same : m ≡ t * 2 ^ z
-  pub high : m < 2 ^ 53
-  pub some : 0 < t
-  pub above : 0 < m
+    strict : (m : ℕ) → m ≤ 2 ^ 54 - 2 → m < 2 ^ 54
+    strict m k = omega arith
 
-pub norm-start : (t : ℕ) → 0 < t → t < 2 ^ 52 → NormInv t t 0
-norm-start t h k = record { same = sym (mul-one t); high = omega arith; some = h; above = h }
+    under : (h : ℕ) → h ≤ 1559 → suc (h - 26) < 2047
+    under h k = omega arith
 
-pub norm-step : (t m z : ℕ) → NormInv t m z → m < 2 ^ 52 → NormInv t (m * 2) (z + 1)
-norm-step t m z v h =
-    record {
-      same = ap (λ (x : ℕ). x * 2) (v .same) ∙ mul-assoc t (2 ^ z) 2 ∙ ap (λ (x : ℕ). t * x) (sym (pow-add 2 z 1));
-      high = omega arith;
-      some = v .some;
-      above = let a = v .above in omega arith;
-    }
+    carry : (q x : ℕ) → 2 ^ 52 ≤ q → x * 2 ^ 52 + q ≡ suc x * 2 ^ 52 + (q - 2 ^ 52)
+    carry q x k = omega arith
 
-pub norm-few : (t m z : ℕ) → NormInv t m z → z ≤ 52
-norm-few t m z v =
-    elim (below-or-from z 53) [
-      | inl g ↦ (let k : z ≤ 52 = omega arith in k)
-      | inr g ↦
-          absurd (lt-irrefl m (lt-of-lt-of-le (v .high)
-          (le-trans (pow-mono g) (le-trans (le-trans (le-of-eq (sym (one-mul (2 ^ z)))) (mul-le-mul-right (2 ^ z) (v .some)))
-          (le-of-eq (sym (v .same)))))))
-    ]
+    rest : (q : ℕ) → q < 2 ^ 53 → q - 2 ^ 52 < 2 ^ 52
+    rest q k = omega arith
 
-pub norm-done : (t m z : ℕ) → NormInv t m z → 2 ^ 52 ≤ m → Normal t m z
-norm-done t m z v h = record { same = v .same; low = h; high = v .high; few = norm-few t m z v }
+    back : (q : ℕ) → 2 ^ 52 ≤ q → 2 ^ 52 + (q - 2 ^ 52) ≡ q
+    back q k = omega arith
 
--- ---- `root_positive`: a number of units from the bit pattern
-pub record Unpacked (b n : ℕ) : Type 0 where
-  pub some : 0 < n
-  pub under : n < 2 ^ 2098
-  pub field : b / 2 ^ 52 ≤ 2046
-  pub low : b / 2 ^ 52 ≡ 0 → n ≡ b % 2 ^ 52
-  pub high : (b / 2 ^ 52 ≡ 0 → ⊥) → n ≡ (b % 2 ^ 52 + 2 ^ 52) * 2 ^ (b / 2 ^ 52 - 1)
-
-unpack-at : (k y n b : ℕ) → b ≡ 0 + k * 2 ^ 52 + y → y * 2 ^ k ≡ n → y < 2 ^ 53 → (0 < k → 2 ^ 52 ≤ y) → k ≤ 2045 → 0 < n → n < 2 ^ 2098
-    → Unpacked b n
-unpack-at k y n b e s h g kk p o = record { some = p; under = o; field = omega arith; low = lo (eq-zero-or-pos k); high = hi }
-  where
-    at-zero : (y k n : ℕ) → k ≡ 0 → y * 2 ^ k ≡ n → y ≡ n
-    at-zero y k n z q = sym (mul-one y) ∙ ap (λ (x : ℕ). y * 2 ^ x) (sym z) ∙ q
-
-    lo : (k ≡ 0) ⊎ (0 < k) → b / 2 ^ 52 ≡ 0 → n ≡ b % 2 ^ 52
-    lo (inl z) q = sym (at-zero y k n z s) ∙ (let r : y ≡ b % 2 ^ 52 = omega arith in r)
-    lo (inr z) q = absurd (let l = g z in omega arith)
-
-    big : (b / 2 ^ 52 ≡ 0 → ⊥) → 2 ^ 52 ≤ y
-    big f =
-        elim (eq-zero-or-pos k) [
-          | inl z ↦ elim (below-or-from y (2 ^ 52)) [ inl l ↦ absurd (f (let m : b / 2 ^ 52 ≡ 0 = omega arith in m)) | inr l ↦ l ]
-          | inr z ↦ g z
-        ]
-
-    hi : (b / 2 ^ 52 ≡ 0 → ⊥) → n ≡ (b % 2 ^ 52 + 2 ^ 52) * 2 ^ (b / 2 ^ 52 - 1)
-    hi f =
-        let l = big f in
-        let a : b / 2 ^ 52 - 1 ≡ k = omega arith in
-        let c : b % 2 ^ 52 + 2 ^ 52 ≡ y = omega arith in
-        sym s ∙ ap (λ (x : ℕ). x * 2 ^ k) (sym c) ∙ ap (λ (x : ℕ). (b % 2 ^ 52 + 2 ^ 52) * 2 ^ x) (sym a)
-
-unpack : (n : ℕ) → Held n → 0 < n → Unpacked (pattern false n) n
-unpack n held p =
-    let k = size n - 53 in
-    let y = n / 2 ^ k in
-    let d : drop 53 n 1 ≡ k = ap (λ (x : ℕ). size x - 53) (omega arith) in
-    let e : kept 53 n 1 * 2 ^ k ≡ n = ap (λ (x : ℕ). kept 53 n 1 * 2 ^ x) (sym d) ∙ held .0 in
-    let q : y ≡ kept 53 n 1 = ap (λ (x : ℕ). x / 2 ^ k) (sym e) ∙ mul-div-cancel (kept 53 n 1) (pow-pos k) in
-    unpack-at k y n (pattern false n) refl (ap (λ (x : ℕ). x * 2 ^ k) q ∙ e) (kept-lt 53 n)
-    (λ (K : 0 < k). le-div-iff-mul-le (pow-pos k) .1
-    (le-trans (le-of-eq (sym (pow-add 2 52 k))) (size-reaches n (52 + k) (omega arith))))
-    (omega (arith, size-le n 2098 (subst (λ (z : ℕ). n < z) O-is (held .1)))) p (subst (λ (z : ℕ). n < z) O-is (held .1))
-
+-- ---- a value by its units
 pub root-of : (m : ℕ) (e : ℤ) → squareRoot B (fin false (suc m) e) ≡ rootOfUnits B (mag (fin false (suc m) e))
 unfolding squareRoot U
 root-of m e = refl
 
--- what `root_positive` needs of x
-pub opened : (x : Float) → T (positive x) → T (fits B x)
-    → Unpacked (toBits B x) (mag x) × (squareRoot B x ≡ rootOfUnits B (mag x)) × T (not (isNan x))
-unfolding isNan
-opened (fin false (suc m) e) p f =
-    let x = fin false (suc m) e in
-    let i = is-of x tt f in (
-      subst (λ (b : ℕ). Unpacked b (mag x)) (sym (bits-of x false (mag x) (i .0)))
-          (unpack (mag x) (i .1) (units-pos m (mag x) e (i .0 .1))),
-      root-of m e,
-      tt,
-    )
-
--- a subnormal, and a normal value
-pub low-root : (b n m z : ℕ) (r x : Float) → Unpacked b n → squareRoot B x ≡ rootOfUnits B n → b / 2 ^ 52 ≡ 0 → Normal (b % 2 ^ 52) m z
-    → RootFrom m (1074 - z) r → r ≡ squareRoot B x
-low-root b n m z r x v e q w f =
-    f n (v .under)
-    (ap (λ (y : ℕ). y * 2 ^ 1074) (v .low q)
-    ∙ ap (λ (y : ℕ). b % 2 ^ 52 * 2 ^ y) (back (w .few))
-    ∙ ap (λ (y : ℕ). b % 2 ^ 52 * y) (pow-add 2 z (1074 - z))
-    ∙ sym (mul-assoc (b % 2 ^ 52) (2 ^ z) (2 ^ (1074 - z)))
-    ∙ ap (λ (y : ℕ). y * 2 ^ (1074 - z)) (sym (w .same)))
-    ∙ sym e
-  where
-    back : z ≤ 52 → 1074 ≡ z + (1074 - z)
-    back h = omega arith
-
-pub high-root : (b n : ℕ) (r x : Float) → Unpacked b n → squareRoot B x ≡ rootOfUnits B n → (b / 2 ^ 52 ≡ 0 → ⊥)
-    → RootFrom (b % 2 ^ 52 + 2 ^ 52) (b / 2 ^ 52 + 1073) r → r ≡ squareRoot B x
-high-root b n r x v e q f =
-    let m = b % 2 ^ 52 + 2 ^ 52 in
-    let k = b / 2 ^ 52 - 1 in
-    f n (v .under)
-    (ap (λ (y : ℕ). y * 2 ^ 1074) (v .high q)
-    ∙ mul-assoc m (2 ^ k) (2 ^ 1074)
-    ∙ ap (λ (y : ℕ). m * y) (sym (pow-add 2 k 1074) ∙ ap (λ (y : ℕ). 2 ^ y) (up-one (eq-zero-or-pos (b / 2 ^ 52)))))
-    ∙ sym e
-  where
-    up-one : (b / 2 ^ 52 ≡ 0) ⊎ (0 < b / 2 ^ 52) → b / 2 ^ 52 - 1 + 1074 ≡ b / 2 ^ 52 + 1073
-    up-one (inl h) = absurd (q h)
-    up-one (inr h) = omega arith
+pub size-of : (x : Float) (s : Bool) (n : ℕ) → Is x s n → Size x n
+unfolding U
+size-of (fin t m e) s n h = h .1
 
 -- ---- `by_digits`: the other values. 0.0 and the infinity stand there by their bit patterns
 pub zero-bits : ofBits B 0 ≡ fin false 0 (pos 0)

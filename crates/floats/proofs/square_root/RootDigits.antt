@@ -1,115 +1,186 @@
--- The loop of `digits`: the whole root of m * 2 ^ 54, two digits of the number and one of the root to a turn.
--- Proved: the invariant `Inv` holds at the start (`start`), after a turn with either
--- digit (`bit-turn`), and at the end root is the whole root (`finish`).
+-- The root by digits. Proved: `EachDigit` of specs/RootDigits.antt (`each-digit`), by one digit (`next`) and the bits that it takes
+-- (`taken-up`); that root has no more binary digits than were made (`width`); and for the code: a digit as a number (`bit-digit`), the two bits of
+-- m * 2 ^ 52 by their places (`two-high`, `two-low`), what a digit needs (`ready`) and gives (`turn`), and the nearest root at the end (`last-digit`).
 use mathlib.Core.Path.{_≡_, refl, sym, ap, _∙_, subst}
-use Prim.Native.Nat.{ℕ, _+_, _-_, _*_, _/_, _%_, _^_, _≤_, _<_}
-use native.Mathlib.Nat.{le-of-eq, lt-of-lt-of-le, mul-comm, mul-assoc, mul-div-cancel, mul-one, mul-zero, add-zero}
+use Prim.Native.Nat.{ℕ, zero, suc, _+_, _-_, _*_, _/_, _%_, _^_, _≤_, _<_}
+use native.Mathlib.Nat.{le-of-eq, lt-of-lt-of-le, mul-mod-left, mul-div-cancel, mul-div-mul-right, div-div-eq-div-mul, div-eq-of-lt, div-one, mul-one, add-zero}
+use native.Mathlib.Numerals.{add-one}
 use native.Mathlib.Omega.{arith}
-use mathlib.Core.Logic.{_⊎_, inl, inr}
 use mathlib.Core.Bool.{Bool, true, false, not, cond}
-use lib.Dec.{T, leb, leb→le, nleb→lt, lit<}
-use lib.Arith.{digits-div}
-use lib.Pow.{pow-add, pow-mono}
-use Rattle.floats.specs.RootSteps.{Root}
+use lib.Dec.{T, leb, ltb, leb→le, ltb→lt, nleb→lt, nltb→le, lit<}
+use lib.Pow.{pow-add, pow-pos, pow-mono}
+use Rattle.floats.specs.RootSteps.{Nearest}
+use Rattle.floats.specs.RootDigits.{RootRem, SquareAndRest, EachDigit, rootRem, digit, two, taken, after}
 
--- after i turns: root * root + rem is the number that the digits taken so far form, w
--- holds the rest of them at its top, and rem is at most 2 * root
-pub record Inv (m root rem w i : ℕ) : Type 0 where
-  pub same : (root * root + rem) * 2 ^ 54 + w ≡ m * 4 ^ i
-  pub small : rem ≤ 2 * root
-  pub rest : w < 2 ^ 54
-  pub width : root < 2 ^ i
-  pub bound : i ≤ 54
+-- ---- one digit
+abbrev Next : ℕ → ℕ → ℕ → RootRem → Type 0
+Next root rem two s = SquareAndRest (4 * (root * root + rem) + two) s × (s .root ≤ 2 * root + 1)
 
-pub start : (m : ℕ) → m < 2 ^ 54 → Inv m 0 0 m 0
-start m h = record { same = omega arith; small = omega arith; rest = h; width = lit< tt; bound = omega arith }
+next : (root rem two : ℕ) → rem ≤ 2 * root → two < 4 → Next root rem two (digit root rem two)
+unfolding digit
+next root rem two h k = go (leb t x) (leb→le t x) (nleb→lt t x)
+  where
+    x : ℕ
+    x = 4 * rem + two
 
-four-up : (i : ℕ) → 4 ^ (i + 1) ≡ 4 * 4 ^ i
-four-up i = pow-add 4 i 1 ∙ mul-comm (4 ^ i) 4
+    t : ℕ
+    t = 4 * root + 1
 
-two-up : (i : ℕ) → 2 ^ (i + 1) ≡ 2 * 2 ^ i
-two-up i = pow-add 2 i 1 ∙ mul-comm (2 ^ i) 2
+    go : (b : Bool) → (T b → t ≤ x) → (T (not b) → x < t) → Next root rem two (cond b (rootRem (2 * root + 1) (x - t)) (rootRem (2 * root) x))
+    go true f g = let l = f tt in (record { same = omega arith; small = omega arith }, omega arith)
+    go false f g = let l = g tt in (record { same = omega arith; small = omega arith }, omega arith)
 
--- the digits, after a turn: x is 4 * rem and the next two of them
-turn : (m p q r s x w w' f : ℕ) → (r * r + s) * 2 ^ 54 + w ≡ m * f → x ≡ s * 4 + w / 2 ^ 52 → w' ≡ w % 2 ^ 52 * 4 → q + p ≡ 4 * (r * r) + x
-    → (q + p) * 2 ^ 54 + w' ≡ m * (4 * f)
-turn m p q r s x w w' f e a b c = omega arith
+-- ---- the bits of a number
+four-up : (n : ℕ) → 4 ^ suc n ≡ 4 ^ n * 4
+four-up n = ap (λ (z : ℕ). 4 ^ z) (sym (add-one n)) ∙ pow-add 4 n 1
 
--- a turn with the digit 1, and with 0
-yes-turn : (m root rem w i x t : ℕ) → Inv m root rem w i → i < 54 → x ≡ rem * 4 + w / 2 ^ 52 → t ≡ root * 4 + 1 → t ≤ x
-    → Inv m (root * 2 + 1) (x - t) (w % 2 ^ 52 * 4) (i + 1)
-yes-turn m r s w i x t v l a b h =
-    let k = v .small in
-    let z = v .rest in
+-- two bits more
+taken-up : (k N i : ℕ) → i < k → taken k N (suc i) ≡ 4 * taken k N i + two k N i
+unfolding taken two
+taken-up k N i h =
+    let j = k - 1 - i in
+    ap (λ (z : ℕ). N / 4 ^ z) (let e : k - suc i ≡ j = omega arith in e)
+    ∙ split (N / 4 ^ j)
+    ∙ ap (λ (z : ℕ). 4 * z + N / 4 ^ j % 4)
+    (div-div-eq-div-mul N (4 ^ j) 4
+    ∙ ap (λ (z : ℕ). N / z) (sym (four-up j))
+    ∙ ap (λ (z : ℕ). N / 4 ^ z) (let e : suc j ≡ k - i = omega arith in e))
+  where
+    split : (y : ℕ) → y ≡ 4 * (y / 4) + y % 4
+    split y = omega arith
+
+two-small : (k N i : ℕ) → two k N i < 4
+unfolding two
+two-small k N i = below (N / 4 ^ (k - 1 - i))
+  where
+    below : (y : ℕ) → y % 4 < 4
+    below y = omega arith
+
+-- ---- after each digit
+pub each-digit : EachDigit
+unfolding after taken
+each-digit k N zero h l =
+    record { same = sym (div-eq-of-lt h) ∙ ap (λ (z : ℕ). N / 4 ^ z) (let e : k ≡ k - 0 = omega arith in e); small = omega arith }
+each-digit k N (suc i) h l =
+    let s = after k N i in
+    let v = each-digit k N i h (omega arith) in
+    let n = next (s .root) (s .rem) (two k N i) (v .small) (two-small k N i) .0 in
     record {
-      same =
-          turn m (x - t) ((r * 2 + 1) * (r * 2 + 1)) r s x w (w % 2 ^ 52 * 4) (4 ^ i) (v .same) a refl (omega arith)
-          ∙ ap (λ (f : ℕ). m * f) (sym (four-up i));
-      small = omega arith;
-      rest = omega arith;
-      width = lt-of-lt-of-le (let g = v .width in omega arith) (le-of-eq (sym (two-up i)));
-      bound = l';
+      same = n .same ∙ ap (λ (z : ℕ). 4 * z + two k N i) (v .same) ∙ sym (taken-up k N i l);
+      small = n .small;
     }
+
+width : (k N i : ℕ) → N < 4 ^ k → i ≤ k → after k N i .root < 2 ^ i
+unfolding after
+width k N zero h l = lit< tt
+width k N (suc i) h l =
+    let s = after k N i in
+    let v = each-digit k N i h (omega arith) in
+    let n = next (s .root) (s .rem) (two k N i) (v .small) (two-small k N i) .1 in
+    lt-of-lt-of-le (twice (s .root) (2 ^ i) (after k N (suc i) .root) (width k N i h (omega arith)) n)
+    (le-of-eq (sym (pow-add 2 i 1) ∙ ap (λ (z : ℕ). 2 ^ z) (add-one i)))
   where
-    l' : i + 1 ≤ 54
-    l' = omega arith
+    twice : (r p q : ℕ) → r < p → q ≤ 2 * r + 1 → q < p * 2
+    twice r p q a b = omega arith
 
-no-turn : (m root rem w i x t : ℕ) → Inv m root rem w i → i < 54 → x ≡ rem * 4 + w / 2 ^ 52 → t ≡ root * 4 + 1 → x < t
-    → Inv m (root * 2) x (w % 2 ^ 52 * 4) (i + 1)
-no-turn m r s w i x t v l a b h =
-    let k = v .small in
-    let z = v .rest in
-    record {
-      same =
-          turn m x ((r * 2) * (r * 2)) r s x w (w % 2 ^ 52 * 4) (4 ^ i) (v .same) a refl (omega arith)
-          ∙ ap (λ (f : ℕ). m * f) (sym (four-up i));
-      small = omega arith;
-      rest = omega arith;
-      width = lt-of-lt-of-le {m = 2 * 2 ^ i} (let g = v .width in omega arith) (le-of-eq (sym (two-up i)));
-      bound = l';
-    }
-  where
-    l' : i + 1 ≤ 54
-    l' = omega arith
-
--- after 54 turns all of m * 2 ^ 54 is taken
-pub finish : (m root rem w : ℕ) → Inv m root rem w 54 → Root root (m * 2 ^ 54)
-finish m r s w v = let e : r * r + s ≡ m * 2 ^ 54 = whole (r * r + s) w m (v .same) (v .rest) in let k = v .small in omega arith
-  where
-    whole : (y w m : ℕ) → y * 2 ^ 54 + w ≡ m * 2 ^ 108 → w < 2 ^ 54 → y ≡ m * 2 ^ 54
-    whole y w m e l =
-        sym (digits-div y l) ∙ ap (λ (z : ℕ). z / 2 ^ 54) (e ∙ sym (mul-assoc m (2 ^ 54) (2 ^ 54))) ∙ mul-div-cancel (m * 2 ^ 54) (lit< tt)
-
--- root has 54 digits at most
-pub wide : (m root rem w i : ℕ) → Inv m root rem w i → root < 2 ^ 54
-wide m root rem w i v = lt-of-lt-of-le (v .width) (pow-mono {i = i} {j = 54} (v .bound))
-
-with-width : (m r s w i r' s' : ℕ) → r' ≡ r → s' ≡ s → Inv m r s w i → Inv m r' s' w i × (r' < 2 ^ 54)
-with-width m r s w i r' s' a b v =
-    let u = subst (λ (z : ℕ). Inv m z s' w i) (sym a) (subst (λ (z : ℕ). Inv m r z w i) (sym b) v) in (u, wide m r' s' w i u)
-
--- the digit as a number
-by-bit : (t x c : ℕ) → c ≡ cond (leb t x) 1 0 → ((t ≤ x) × (c ≡ 1) × (t * c ≡ t)) ⊎ ((x < t) × (c ≡ 0) × (t * c ≡ 0))
-by-bit t x c = go (leb t x) (leb→le t x) (nleb→lt t x)
-  where
-    go : (b : Bool) → (T b → t ≤ x) → (T (not b) → x < t) → c ≡ cond b 1 0
-        → ((t ≤ x) × (c ≡ 1) × (t * c ≡ t)) ⊎ ((x < t) × (c ≡ 0) × (t * c ≡ 0))
-    go true f g e = inl (f tt, e, ap (λ (z : ℕ). t * z) e ∙ mul-one t)
-    go false f g e = inr (g tt, e, ap (λ (z : ℕ). t * z) e ∙ mul-zero t)
-
+-- ---- `digit`: the digit as a number
 pub bit-small : (t x c : ℕ) → c ≡ cond (leb t x) 1 0 → t * c ≤ x
-bit-small t x c e = elim (by-bit t x c e) [ inl g ↦ (let a = g .0 in let b = g .2 in omega arith) | inr g ↦ (let b = g .2 in omega arith) ]
-
-pub bit-turn : (m root rem w i x t c : ℕ) → Inv m root rem w i → i < 54 → x ≡ rem * 4 + w / 2 ^ 52 → t ≡ root * 4 + 1
-    → c ≡ cond (leb t x) 1 0 → Inv m (root * 2 + c) (x - t * c) (w % 2 ^ 52 * 4) (i + 1) × (root * 2 + c < 2 ^ 54)
-bit-turn m r s w i x t c v l a b e = elim (by-bit t x c e) [
-  | inl g ↦
-      with-width m (r * 2 + 1) (x - t) (w % 2 ^ 52 * 4) (i + 1) (r * 2 + c) (x - t * c) (ap (λ (z : ℕ). r * 2 + z) (g .1))
-      (ap (λ (z : ℕ). x - z) (g .2)) (yes-turn m r s w i x t v l a b (g .0))
-  | inr g ↦
-      with-width m (r * 2) x (w % 2 ^ 52 * 4) (i + 1) (r * 2 + c) (x - t * c) (ap (λ (z : ℕ). r * 2 + z) (g .1) ∙ add-zero (r * 2))
-      (ap (λ (z : ℕ). x - z) (g .2) ∙ sub-zero x) (no-turn m r s w i x t v l a b (g .0))
-]
+bit-small t x c = go (leb t x) (leb→le t x)
   where
-    sub-zero : (x : ℕ) → x - 0 ≡ x
-    sub-zero x = omega arith
+    go : (b : Bool) → (T b → t ≤ x) → c ≡ cond b 1 0 → t * c ≤ x
+    go true f e = let l = f tt in rw e (omega arith)
+    go false f e = rw e (omega arith)
+
+pub bit-digit : (root rem two c : ℕ) → c ≡ cond (leb (4 * root + 1) (4 * rem + two)) 1 0
+    → rootRem (2 * root + c) (4 * rem + two - (4 * root + 1) * c) ≡ digit root rem two
+unfolding digit
+bit-digit root rem two c = go (leb t x)
+  where
+    x : ℕ
+    x = 4 * rem + two
+
+    t : ℕ
+    t = 4 * root + 1
+
+    go : (b : Bool) → c ≡ cond b 1 0 → rootRem (2 * root + c) (x - t * c) ≡ cond b (rootRem (2 * root + 1) (x - t)) (rootRem (2 * root) x)
+    go true e = rw e (ap (λ (z : ℕ). rootRem (2 * root + 1) (x - z)) (mul-one t))
+    go false e = rw e (ap (λ (z : ℕ). rootRem z (x - t * 0)) (add-zero (2 * root)) ∙ ap (rootRem (2 * root)) (let k : x - t * 0 ≡ x = omega arith in k))
+
+-- ---- `two_bits`: the operand is m * 2 ^ 52
+pub four-two : (n : ℕ) → 4 ^ n ≡ 2 ^ (n + n)
+four-two zero = refl
+four-two (suc n) =
+    four-up n
+    ∙ ap (λ (z : ℕ). z * 4) (four-two n)
+    ∙ sym (pow-add 2 (n + n) 2)
+    ∙ ap (λ (z : ℕ). 2 ^ z) (let e : n + n + 2 ≡ suc n + suc n = omega arith in e)
+
+-- the bits of m
+pub two-high : (m i : ℕ) → i < 27 → m / 2 ^ (52 - 2 * i) % 4 ≡ two 53 (m * 2 ^ 52) i
+unfolding two
+two-high m i h =
+    let j = 52 - 2 * i in
+    let e : 4 ^ (52 - i) ≡ 2 ^ j * 2 ^ 52 =
+    four-two (52 - i) ∙ ap (λ (z : ℕ). 2 ^ z) (let k : 52 - i + (52 - i) ≡ j + 52 = omega arith in k) ∙ pow-add 2 j 52 in
+    ap (λ (z : ℕ). z % 4) (sym (mul-div-mul-right m (2 ^ j) (pow-pos 52)) ∙ ap (λ (z : ℕ). m * 2 ^ 52 / z) (sym e))
+
+-- the zeros behind them
+pub two-low : (m i : ℕ) → 27 ≤ i → i < 53 → 0 ≡ two 53 (m * 2 ^ 52) i
+unfolding two
+two-low m i h l =
+    let d = 52 - i in
+    let a = i - 27 + (i - 27) in
+    let e : 2 ^ 52 ≡ 2 ^ a * 4 * 4 ^ d =
+    ap (λ (z : ℕ). 2 ^ z) (let k : 52 ≡ a + 2 + (d + d) = omega arith in k)
+    ∙ pow-add 2 (a + 2) (d + d)
+    ∙ ap (λ (z : ℕ). z * 2 ^ (d + d)) (pow-add 2 a 2)
+    ∙ ap (λ (z : ℕ). 2 ^ a * 4 * z) (sym (four-two d)) in
+    let q : m * 2 ^ 52 / 4 ^ d ≡ m * 2 ^ a * 4 =
+    ap (λ (z : ℕ). z / 4 ^ d) (ap (λ (z : ℕ). m * z) e ∙ group m (2 ^ a) (4 ^ d))
+    ∙ mul-div-cancel (m * 2 ^ a * 4) (subst (λ (z : ℕ). 0 < z) (sym (four-two d)) (pow-pos (d + d))) in
+    sym (ap (λ (z : ℕ). z % 4) q ∙ mul-mod-left (m * 2 ^ a) 4)
+  where
+    group : (m p q : ℕ) → m * (p * 4 * q) ≡ m * p * 4 * q
+    group m p q = omega arith
+
+-- ---- `digits`
+under : (m : ℕ) → m < 2 ^ 54 → m * 2 ^ 52 < 4 ^ 53
+under m h = omega arith
+
+-- s is root and remainder after i digits, and w the next two bits
+module _ (m i w : ℕ) (s : RootRem) (h : m < 2 ^ 54) (l : i < 53) (a : s ≡ after 53 (m * 2 ^ 52) i) (b : w ≡ two 53 (m * 2 ^ 52) i) where
+  pub ready : (s .root < 2 ^ 56) × (s .rem ≤ 2 * s .root) × (w < 4)
+  ready =
+      let N = m * 2 ^ 52 in
+      rw (a, b) (
+        lt-of-lt-of-le (width 53 N i (under m h) (omega arith)) (pow-mono {i = i} {j = 56} (omega arith)),
+        each-digit 53 N i (under m h) (omega arith) .small,
+        two-small 53 N i,
+      )
+
+  pub turn : (r : RootRem) → r ≡ digit (s .root) (s .rem) w → r ≡ after 53 (m * 2 ^ 52) (i + 1)
+  unfolding after
+  turn r e =
+      let N = m * 2 ^ 52 in
+      e
+      ∙ ap (λ (z : RootRem). digit (z .root) (z .rem) w) a
+      ∙ ap (digit (after 53 N i .root) (after 53 N i .rem)) b
+      ∙ ap (after 53 N) (sym (add-one i))
+
+-- After the last digit all of m * 2 ^ 52 is taken: the nearest to its root is the whole root, and one more where the remainder is above it.
+pub last-digit : (m c : ℕ) (s : RootRem) → 0 < m → m < 2 ^ 54 → s ≡ after 53 (m * 2 ^ 52) 53 → c ≡ cond (ltb (s .root) (s .rem)) 1 0
+    → (s .root < 2 ^ 53) × Nearest (s .root + c) (m * 2 ^ 52)
+unfolding taken
+last-digit m c s p h a e =
+    let N = m * 2 ^ 52 in
+    let v : SquareAndRest (N / 1) s = rw a (each-digit 53 N 53 (under m h) (omega arith)) in (
+      rw a (width 53 N 53 (under m h) (omega arith)),
+      go (s .root) (s .rem) N (omega arith) (v .same ∙ div-one N) (v .small) (ltb (s .root) (s .rem)) (ltb→lt (s .root) (s .rem))
+          (nltb→le (s .root) (s .rem)) e,
+    )
+  where
+    go : (r s n : ℕ) → 0 < n → r * r + s ≡ n → s ≤ 2 * r → (b : Bool) → (T b → r < s) → (T (not b) → s ≤ r) → c ≡ cond b 1 0
+        → Nearest (r + c) n
+    go r s n q e k true f g d = let l = f tt in rw d (omega arith, omega arith)
+    go zero s n q e k false f g d = absurd (omega arith)
+    go (suc r) s n q e k false f g d = let l = g tt in rw d (omega arith, omega arith)

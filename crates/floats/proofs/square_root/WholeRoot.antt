@@ -20,11 +20,14 @@ use lib.Ieee.Order.{drop}
 use lib.Ieee.Scale.{grid-scale, normal-of-fraction}
 use lib.Arith.{digits-lt}
 use Rattle.floats.specs.SquareRoot.{isqrt, sticky, rootOfUnits}
-use Rattle.floats.specs.RootSteps.{Root}
 use Rattle.floats.proofs.Rounding.{rnd, rnd-whole, Near, rnd-fix, rnd-same, closest-err, below-or-from, size-above}
 use Rattle.floats.proofs.Rounding.Units.{U, O, O-is, U-is, U-pos, Is, round-units}
 
 -- ---- the whole root
+-- s is the whole root of n
+abbrev pub Root : ℕ → ℕ → Type 0
+Root s n = (s * s ≤ n) × (n < (s + 1) * (s + 1))
+
 quarter : (n p : ℕ) → n < 4 * p → n / 4 < p
 quarter n p h = omega arith
 

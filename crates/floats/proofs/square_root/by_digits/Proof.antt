@@ -1,6 +1,5 @@
--- `by_digits` meets its contract: the values with no digits to compute, by RootBits, and `root_positive` for the others.
+-- `by_digits` meets its contract: the values with no digits to compute, by RootBits, and `root_of` the operand for the others.
 use Rattle.floats.proofs.square_root.RootBits.{nan-case, negative-case, zero-case, inf-case, positive-case, inf-not-nan}
-use borrow.Author.Needs.{needs}
 use Rattle.floats.proofs.square_root.by_digits.Statement.{statement}
 use Rattle.floats.proofs.square_root.by_digits.Tie as tie
 
@@ -10,4 +9,5 @@ by-digits-spec = tie.close (tie.spec (λ c. nan-case (c .before .args .x) (c .if
     (λ c. zero-case (c .before .before .before .args .x) (c .before .if2 .taken) (c .if3 .left)) (λ c. inf-not-nan)
     (λ c. inf-case (c .before .before .before .args .x) (c .if4 .taken))
     (λ c κs. positive-case (c .before .before .before .args .x) (c .before .before .if1 .left) (c .before .if2 .left) (c .if4 .left))
-    (λ c. search needs))
+    (λ c κs. c .scale .ensures .range)
+    (λ c. c .root-of .ensures (c .before .before .before .before .before .args .x) (c .before .scale .ensures)))

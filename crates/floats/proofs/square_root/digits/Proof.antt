@@ -1,41 +1,38 @@
--- `digits` meets its contract: the invariant of RootDigits, and that each sum of a turn fits.
-use mathlib.Core.Path.{_≡_, refl, subst}
-use Prim.Native.Nat.{ℕ, _+_, _-_, _*_, _/_, _^_, _<_, _≤_}
+-- `digits` meets its contract: each turn of the loop is a digit of `after`, with what it needs and gives by RootDigits.
+use mathlib.Core.Path.{_≡_, refl, ap, _∙_}
+use Prim.Native.Nat.{_-_, _*_, _^_, _≤_}
 use native.Mathlib.Omega.{arith}
-use borrow.Author.Needs.{needs}
-use Rattle.floats.proofs.square_root.RootDigits.{Inv, start, finish, bit-small, bit-turn}
+use Rattle.floats.specs.RootDigits.{after}
+use Rattle.floats.proofs.square_root.RootDigits.{ready, turn}
 use Rattle.floats.proofs.square_root.digits.Statement.{statement}
 use Rattle.floats.proofs.square_root.digits.Tie as tie
 
 abbrev Inv-loop : tie.InvT-loop
-Inv-loop m root₀ rem₀ w₀ i₀ root rem w i = Inv m root rem w i × (root < 2 ^ 54)
+Inv-loop m s₀ i₀ s i = (s ≡ after 53 (m * 2 ^ 52) i) × (i ≤ 53)
 
 abbrev μ-loop : tie.MeasureT-loop
-μ-loop m root₀ rem₀ w₀ i₀ root rem w i = 54 - i
+μ-loop m s₀ i₀ s i = 53 - i
 
--- what the product with the digit is at most
-small : (c : tie.After-bit Inv-loop μ-loop)
-    → (c .before .before .loop .root * 4 + 1) * c .bit .result ≤ c .before .before .loop .rem * 4 + c .before .before .loop .w / 2 ^ 52
-small c =
-    bit-small (c .before .before .loop .root * 4 + 1) (c .before .before .loop .rem * 4 + c .before .before .loop .w / 2 ^ 52)
-    (c .bit .result) (c .bit .ensures .1)
+loop-holds : tie.Need-loop-holds Inv-loop μ-loop
+unfolding after
+loop-holds c = (refl, omega arith)
+
+digit-requires : tie.Need-digit-requires Inv-loop μ-loop
+digit-requires c κs =
+    let l = c .before .before .loop in
+    ready (c .before .before .before .args .m) (l .i) (c .two-bits .result) (l .s) (omega arith) (omega arith) (l .inv .0) (c .two-bits .ensures)
 
 loop-again : tie.Need-loop-again Inv-loop μ-loop
 loop-again c =
-    let l = c .before .before .loop in
-    let x = l .rem * 4 + l .w / 2 ^ 52 in
-    let t = l .root * 4 + 1 in
-    bit-turn (c .before .before .before .args .m) (l .root) (l .rem) (l .w) (l .i) x t (c .bit .result) (l .inv .0) (omega arith) refl refl
-    (c .bit .ensures .1)
+    let l = c .before .before .before .loop in
+    let w = c .before .two-bits in
+    let m = c .before .before .before .before .args .m in
+    (turn m (l .i) (w .result) (l .s) (omega arith) (omega arith) (l .inv .0) (w .ensures) (c .digit .result) (c .digit .ensures), omega arith)
 
 returns : tie.Need-returns Inv-loop μ-loop
 returns c =
     let l = c .before .loop in
-    let m = c .before .before .args .m in
-    let e : l .i ≡ 54 = let b = l .inv .0 .bound in omega arith in
-    finish m (l .root) (l .rem) (l .w) (subst (λ (z : ℕ). Inv m (l .root) (l .rem) (l .w) z) e (l .inv .0))
+    l .inv .0 ∙ ap (after 53 (c .before .before .args .m * 2 ^ 52)) (let e : l .i ≡ 53 = omega arith in e)
 
 pub digits-spec : {M : Type 1} → statement M
-digits-spec = tie.close (tie.spec Inv-loop μ-loop (λ c. (start (c .args .m) (omega arith), omega arith)) (λ c. omega arith) (λ c. omega arith)
-    (λ c. omega arith) (λ c. omega arith) (λ c. omega arith) (λ c κs. search needs) (λ c. omega (arith, small c)) (λ c. omega (arith, small c))
-    (λ c. omega arith) (λ c. omega arith) (λ c. omega arith) (λ c. omega arith) loop-again returns)
+digits-spec = tie.close (tie.spec Inv-loop μ-loop loop-holds (λ c κs. omega arith) digit-requires (λ c. omega arith) (λ c. omega arith) loop-again returns)

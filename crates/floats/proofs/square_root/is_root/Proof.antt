@@ -1,43 +1,30 @@
--- `is_root` meets its contract, by `fast-root` of RootGuess: the pattern with the root's exponent and the nearest digits is the guess's own.
-use mathlib.Core.Path.{_≡_, sym, ap, _∙_}
-use Prim.Native.Nat.{_+_, _-_, _*_, _/_, _%_, _^_}
+-- `is_root` meets its contract, by `nearest-pattern` of RootBits: the pattern with the root's exponent and the nearest digits is the guess's own.
+use mathlib.Core.Path.{_≡_, ap, _∙_, subst}
+use Prim.Native.Nat.{_+_, _-_, _*_, _%_, _^_}
 use native.Mathlib.Omega.{arith}
 use borrow.Author.Needs.{needs}
-use lib.Ieee.{binary64, toBits, ofBits, fits}
+use lib.Ieee.{binary64, toBits, ofBits}
 use lib.Ieee.Bits.{ofBits-toBits}
 use Rattle.floats.proofs.float.FloatBits.{not-nan}
-use Rattle.floats.proofs.square_root.RootGuess.{mantissa-in, positive-number, fast-root}
+use Rattle.floats.proofs.square_root.RootBits.{RootFrom, nearest-pattern}
+use Rattle.floats.proofs.square_root.RootOperand.{root-scaled}
 use Rattle.floats.proofs.square_root.is_root.Statement.{statement}
 use Rattle.floats.proofs.square_root.is_root.Tie as tie
-use denote.Floats.{passes}
-
-mul-m : tie.Need-mul-m
-mul-m c =
-    let b = toBits binary64 (c .before .before .args .x) in
-    omega (arith, mantissa-in b (b / 2 ^ 52))
-
-is-nearest-requires : tie.Need-is-nearest-requires
-is-nearest-requires c κs =
-    let b = toBits binary64 (c .before .before .args .x) in
-    let i = mantissa-in b (b / 2 ^ 52) in
-    (omega arith, omega arith)
 
 returns-3 : tie.Need-returns-3
 returns-3 c =
-    let k = c .before .before .before in
-    let x = k .args .x in
+    let k = c .before .before .before .before in
     let g = k .args .g in
-    let f = toBits binary64 x / 2 ^ 52 in
+    let a = k .args .a in
+    let r = k .pre .1 in
     let p = toBits binary64 g in
     let q = p % 2 ^ 52 + 2 ^ 52 in
-    let n = k .pre .0 in
-    let same : p ≡ ((f + 1073) / 2 - 26) * 2 ^ 52 + q = omega arith in
-    λ h.
-    sym (ofBits-toBits binary64 g (k .pre .1))
-    ∙ ap (ofBits binary64) same
-    ∙ fast-root x q (n .0) (passes (fits binary64 x) (k .good .1 .0 .1)) (n .1) (n .2) (c .is-nearest .ensures h)
+    let same : (a .h - 26) * 2 ^ 52 + q ≡ p = omega arith in
+    λ t.
+    root-scaled a g
+    (subst (RootFrom (a .m) (a .h)) (ap (ofBits binary64) same ∙ ofBits-toBits binary64 g (k .pre .0))
+    (nearest-pattern q (a .m) (a .h) (c .is-nearest .ensures t) (r .0) (r .1) (r .2) (r .3)))
 
 pub is-root-spec : {M : Type 1} → statement M
-is-root-spec = tie.close (tie.spec (λ c. λ h. absurd h) (λ c. positive-number (c .before .args .x) (c .before .pre .0 .0))
-    (λ c. not-nan (c .before .args .g) (c .if1 .left)) (λ c. search needs) (λ c. λ h. absurd h) (λ c. search needs) (λ c. search needs) mul-m
-    (λ c. search needs) is-nearest-requires returns-3)
+is-root-spec = tie.close (tie.spec (λ c. λ h. absurd h) (λ c. not-nan (c .before .args .g) (c .if1 .left)) (λ c. search needs) (λ c. λ h. absurd h)
+    (λ c. search needs) (λ c κs. omega arith) returns-3)

@@ -1,10 +1,13 @@
--- `placed` meets its contract: by the parity of the exponent.
+-- `placed` meets its contract, by `placed-at` of RootOperand.
+use native.Mathlib.Omega.{arith}
 use borrow.Author.Needs.{needs}
-use Rattle.floats.proofs.square_root.RootBits.{placed-even, placed-odd}
+use Prim.Native.Nat.{_+_, _*_, _/_, _%_}
+use Rattle.floats.proofs.square_root.RootOperand.{Placed, placed-at}
 use Rattle.floats.proofs.square_root.placed.Statement.{statement}
 use Rattle.floats.proofs.square_root.placed.Tie as tie
 
+at : (c : tie.Start) → let a = c .args in Placed (a .d) (a .e) (record { m = a .d * (a .e % 2 + 1); h = a .e / 2 })
+at c = placed-at (c .args .d) (c .args .e) (c .pre .0) (c .pre .1) (c .pre .2) (c .pre .3)
+
 pub placed-spec : {M : Type 1} → statement M
-placed-spec = tie.close (tie.spec (λ c κs. search needs) (λ c. search needs) (λ c κs. search needs)
-    (λ c. placed-even (c .before .before .args .m) (c .before .before .args .e) (c .scaled .result) (c .before .if1 .taken) (c .scaled .ensures))
-    (λ c. placed-odd (c .before .before .args .m) (c .before .before .args .e) (c .scaled2 .result) (c .before .if1 .left) (c .scaled2 .ensures)))
+placed-spec = tie.close (tie.spec (λ c. search needs) (λ c. omega (arith, at c .0 .1)) at)
