@@ -1,7 +1,7 @@
 //! Times, here and in the Rust: the least of several passes, each over fresh data.
 use super::candidates::{Listed, Sorted};
 use super::harness::*;
-use super::inputs::Rng;
+use super::inputs::{subnormal, Rng};
 use super::library::{run_bounces, Lent};
 use super::numbers::{basis_calls, root_calls, BasisCalls, RootCall};
 use super::optics::{of_surface_calls, OfSurface};
@@ -15,7 +15,7 @@ const PASSES: usize = 61;
 const SIZE: usize = 4096;
 
 fn line(name: &str, here: f64, rust: f64) {
-    println!("{name:<46} {here:>8.2} {rust:>8.2} {:>6.2}", here / rust);
+    println!("{name:<47} {here:>8.2} {rust:>8.2} {:>6.2}", here / rust);
 }
 
 /// Both sides on 95 entries, then on 471, and what this is of that.
@@ -23,7 +23,7 @@ fn lines(name: &str, [here, rust, fine_here, fine_rust]: [f64; 4]) {
     line(&format!("{name}, 95 entries"), here, rust);
     let [grown_here, grown_rust] = [fine_here / here, fine_rust / rust];
     println!(
-        "{:<46} {fine_here:>8.2} {fine_rust:>8.2} {:>6.2}   {grown_here:.3} and {grown_rust:.3} of 95",
+        "{:<47} {fine_here:>8.2} {fine_rust:>8.2} {:>6.2}   {grown_here:.3} and {grown_rust:.3} of 95",
         format!("{name}, 471 entries"),
         fine_here / fine_rust
     );
@@ -349,8 +349,8 @@ fn bench_candidates(rng: &mut Rng) {
 
 pub fn bench(seed: u64, functions: &[Function]) {
     let mut rng = Rng(seed);
-    let (here, rust) = root_calls();
-    println!("{:<46} {:>8} {:>8} {:>6}", format!("ns, least of {PASSES} passes over {SIZE} inputs"), "here", "Rust", "ratio");
+    let (here, digits, rust) = root_calls();
+    println!("{:<47} {:>8} {:>8} {:>6}", format!("ns, least of {PASSES} passes over {SIZE} inputs"), "here", "Rust", "ratio");
     let (a, b) = least(&mut rng, normal, |d| array(d, here), |d| array(d, rust));
     line("square root, array of normal values", a, b);
     let (a, b) = least(&mut rng, |rng| rng.between(0.0, 1.0), |d| array(d, here), |d| array(d, rust));
@@ -359,6 +359,14 @@ pub fn bench(seed: u64, functions: &[Function]) {
     line("  against the instruction with no call", a, b);
     let (a, b) = least(&mut rng, normal, |d| chain(d, here), |d| chain(d, rust));
     line("square root, each from the one before", a, b);
+    let (a, b) = least(&mut rng, subnormal, |d| array(d, here), |d| array(d, rust));
+    line("square root, array of subnormals", a, b);
+    let (a, b) = least(&mut rng, normal, |d| array(d, digits), |d| array(d, rust));
+    line("square root by digits, array of normal values", a, b);
+    let (a, b) = least(&mut rng, subnormal, |d| array(d, digits), |d| array(d, rust));
+    line("square root by digits, array of subnormals", a, b);
+    let (a, b) = least(&mut rng, normal, |d| chain(d, digits), |d| chain(d, rust));
+    line("square root by digits, each from the one before", a, b);
     let (here, rust) = basis_calls();
     let both = |rng: &mut Rng| (direction(rng), direction(rng));
     let (a, b) = least(&mut rng, both, |d| basis(d, here), |d| basis(d, rust));

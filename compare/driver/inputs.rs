@@ -31,8 +31,13 @@ impl Rng {
 }
 
 /// x and the doubles beside it.
-fn beside(x: f64, out: &mut Vec<f64>) {
-    out.extend([x.next_down(), x, x.next_up()]);
+pub fn beside(x: f64) -> [f64; 3] {
+    [x.next_down(), x, x.next_up()]
+}
+
+/// A subnormal above 0, of any length.
+pub fn subnormal(rng: &mut Rng) -> f64 {
+    f64::from_bits((rng.next() >> (12 + rng.below(52))).max(1))
 }
 
 fn both_signs(values: Vec<f64>) -> Vec<f64> {
@@ -45,7 +50,7 @@ fn both_signs(values: Vec<f64>) -> Vec<f64> {
 pub fn edges() -> Vec<f64> {
     let mut v = vec![0.0, f64::from_bits(1), f64::from_bits(2), f64::from_bits(3)];
     v.extend([f64::from_bits(0x0008000000000000), f64::from_bits(0x000fffffffffffff)]);
-    beside(f64::MIN_POSITIVE.next_up(), &mut v);
+    v.extend(beside(f64::MIN_POSITIVE.next_up()));
     // whose squares are the least and the largest
     for e in [-538, -537, -512, -511, 511, 512] {
         v.push(2f64.powi(e));
@@ -54,11 +59,11 @@ pub fn edges() -> Vec<f64> {
     v.extend([2f64.powi(1023), f64::MAX.next_down(), f64::MAX, f64::INFINITY]);
     v.extend([2f64.powi(-54), 2f64.powi(-53), 2f64.powi(-52), 2f64.powi(52), 2f64.powi(53), 2f64.powi(63)]);
     for limit in [1e-20, 1e-10, 1e-6, 1e-5, 1e-3, 0.01, 0.5, 0.999999, 1.0, 1.000001, 100.0, 360.0, 365.0, 830.0] {
-        beside(limit, &mut v);
+        v.extend(beside(limit));
     }
     for limit in [1e-12, 1e-10] {
-        beside(1.0 - limit, &mut v);
-        beside(1.0 + limit, &mut v);
+        v.extend(beside(1.0 - limit));
+        v.extend(beside(1.0 + limit));
     }
     v.extend([0.25, 0.75, 1.5, 2.0, 3.0, 4.0, 362.5, 825.0, 0.1, 0.6, 0.8]);
     both_signs(v)

@@ -46,7 +46,7 @@ fn compare(seed: u64, count: usize) -> usize {
         differences += library::compare_bounces(seed, entries, bounces).1;
         differences += library::compare_thin(seed, entries, bounces);
     }
-    differences + root::compare(seed, count.max(1_000_000))
+    differences + root::compare(seed, (count * 10).max(1_000_000))
 }
 
 /// Writes the samples that programs replay, each to the data of its program, whose folder is in this one.

@@ -3,6 +3,7 @@ use super::harness::*;
 use super::inputs::{Rng, Slot};
 use super::judge::{self, spectrum};
 use super::reading;
+use super::root::numbers_sqrt_by_digits;
 use super::rulvimba;
 use super::spectra::{self, FINE_SAMPLES, MORE, SAMPLES};
 use super::surfaces::{is_direction, is_length, is_lookup};
@@ -232,10 +233,12 @@ fn normal_values(rng: &mut Rng, _: &[Slot], w: &mut [f64]) {
 
 pub type RootCall = extern "C-unwind" fn(f64) -> f64;
 
-/// The square root here and in the Rust, for the benchmark.
-pub fn root_calls() -> (RootCall, RootCall) {
+/// The square root here, its digits by themselves, and the root in the Rust, for the benchmark.
+pub fn root_calls() -> (RootCall, RootCall, RootCall) {
     let f: unsafe extern "C" fn(f64) -> f64 = here::numbers_sqrt;
-    (unsafe { std::mem::transmute(f) }, rust::numbers_sqrt)
+    let g: unsafe extern "C" fn(f64) -> f64 = numbers_sqrt_by_digits;
+    let (here, digits) = unsafe { (std::mem::transmute(f), std::mem::transmute(g)) };
+    (here, digits, rust::numbers_sqrt)
 }
 
 pub type BasisCalls = (extern "C-unwind" fn(Vec3) -> Basis, extern "C-unwind" fn(Basis, Vec3) -> Vec3);

@@ -1,10 +1,12 @@
 //! The square root against a second implementation: an exact test, in whole numbers, that a result is
-//! the double nearest to the root.
+//! the double nearest to the root. Its digits by themselves have the same inputs: through the root only
+//! subnormals and one normal value in a thousand reach them.
 use super::harness::bits;
-use super::inputs::{edges, Rng};
+use super::inputs::{beside, edges, subnormal, Rng};
 
 extern "C" {
     fn numbers_sqrt(x: f64) -> f64;
+    pub fn numbers_sqrt_by_digits(x: f64) -> f64;
 }
 
 /// A finite value above 0 as m * 2^e.
@@ -56,36 +58,90 @@ fn hard(rng: &mut Rng) -> f64 {
     digits * 2f64.powi(exponent)
 }
 
-fn input(rng: &mut Rng, edges: &[f64], i: usize) -> f64 {
-    if i < edges.len() {
-        return edges[i];
-    }
+fn at_random(rng: &mut Rng, i: usize) -> f64 {
     match i % 4 {
         0 => hard(rng),
-        // every size of a subnormal
-        1 => f64::from_bits(rng.next() >> (12 + rng.below(52))),
+        1 => subnormal(rng),
         2 => f64::from_bits(rng.next() & !(1 << 63)),
         _ => rng.between(0.0, 4.0),
     }
 }
 
-/// Our root against the machine's and against the exact test, and the machine's against it too.
-pub fn compare(seed: u64, count: usize) -> usize {
-    let mut rng = Rng(seed);
-    let edges = edges();
-    let (mut differences, mut machine) = (0, 0);
-    for i in 0..count {
-        let x = input(&mut rng, &edges, i);
-        let r = unsafe { numbers_sqrt(x) };
-        if !is_root(x, r) || bits(r) != bits(x.sqrt()) {
-            differences += 1;
-            if differences <= 3 {
-                println!("  root of {:016x}: here {:016x}, rust {:016x}", x.to_bits(), bits(r), bits(x.sqrt()));
-            }
-        }
-        machine += !is_root(x, x.sqrt()) as usize;
+// ---- values that every run has
+
+/// Of the whole numbers with j + 1 binary digits the two least, one in the middle and the two largest;
+/// with one digit there is only 1, and 0 and 2 come along.
+fn of_length(j: u32) -> [u64; 5] {
+    let least = 1 << j;
+    [least, least + 1, least + least / 2, 2 * least - 2, 2 * least - 1]
+}
+
+/// The power of two of every exponent, odd and even, of subnormals first.
+fn powers_of_two() -> impl Iterator<Item = f64> {
+    let subnormals = (0..52).map(|j| 1 << j);
+    let normal = (1..2047).map(|f| f << 52);
+    subnormals.chain(normal).map(f64::from_bits)
+}
+
+/// Squares of values of every length and size, as far as the format has them, rounded if need be. The root
+/// of an exact one ends early and leaves nothing: there a digit tested by `<` in the place of `<=` is wrong.
+fn squares() -> impl Iterator<Item = f64> {
+    let of_one = |q: u64| powers_of_two().map(move |p| q as f64 * p);
+    let roots = (0..53).flat_map(of_length).flat_map(of_one);
+    roots.map(|r| r * r).filter(|x| *x > 0.0 && x.is_finite())
+}
+
+/// The edges, subnormals of every length, and powers of two and squares with the doubles beside them.
+fn fixed() -> Vec<f64> {
+    let mut all = edges();
+    all.extend((0..52).flat_map(of_length).map(f64::from_bits));
+    all.extend(powers_of_two().chain(squares()).flat_map(beside));
+    all
+}
+
+// ---- the comparison
+
+/// A way to the root, and on how many inputs it was wrong.
+struct Subject {
+    name: &'static str,
+    root: fn(f64) -> f64,
+    differences: usize,
+}
+
+impl Subject {
+    fn new(name: &'static str, root: fn(f64) -> f64) -> Self {
+        Self { name, root, differences: 0 }
     }
-    println!("{:<44} {count:>9} inputs {differences:>6} differences", "numbers_sqrt, exact test");
-    println!("{:<44} {count:>9} inputs {machine:>6} differences", "the machine's root, exact test");
-    differences + machine
+
+    /// Its answer is to pass the exact test and to be the machine's.
+    fn compare(&mut self, x: f64) {
+        let r = (self.root)(x);
+        if is_root(x, r) && bits(r) == bits(x.sqrt()) {
+            return;
+        }
+        self.differences += 1;
+        if self.differences <= 3 {
+            println!("  {} of {:016x}: {:016x}, rust {:016x}", self.name, x.to_bits(), bits(r), bits(x.sqrt()));
+        }
+    }
+}
+
+/// Our root, its digits by themselves and the machine's root, on the fixed values and on `count` at random.
+pub fn compare(seed: u64, count: usize) -> usize {
+    let mut subjects = [
+        Subject::new("numbers_sqrt", |x| unsafe { numbers_sqrt(x) }),
+        Subject::new("numbers_sqrt_by_digits", |x| unsafe { numbers_sqrt_by_digits(x) }),
+        Subject::new("the machine's root", f64::sqrt),
+    ];
+    let mut rng = Rng(seed);
+    let fixed = fixed();
+    let inputs = fixed.len() + count;
+    let random = (0..count).map(|i| at_random(&mut rng, i));
+    for x in fixed.into_iter().chain(random) {
+        subjects.iter_mut().for_each(|s| s.compare(x));
+    }
+    for s in &subjects {
+        println!("{:<44} {inputs:>9} inputs {:>6} differences", format!("{}, exact test", s.name), s.differences);
+    }
+    subjects.iter().map(|s| s.differences).sum()
 }
