@@ -1,6 +1,6 @@
-// IEEE 754's square root, correctly rounded, of every value. A value above 0 is scaled once, to an operand;
-// a guess is checked by exact arithmetic on the operand, and where it is refused the root is computed from
-// the same operand digit by digit, as it is for a subnormal, for which there is no guess.
+// IEEE 754's square root, correctly rounded, of every value. A finite value above 0 is scaled once, to an
+// operand; a guess is checked by exact arithmetic on the operand, and where it is refused the root is computed
+// from the same operand digit by digit, as it is for a subnormal, for which there is no guess.
 ghost use mathlib.Core.Path.{_≡_};
 ghost use mathlib.Core.Bool.{cond};
 ghost use Prim.Native.Nat.{_<_, _≤_, _+_, _*_, _^_};
@@ -9,8 +9,8 @@ ghost use lib.Ieee.{binary64, fits};
 ghost use lib.Ieee.Positive.{positive};
 ghost use Rattle.floats.specs.Float.{max, f0};
 ghost use Rattle.floats.specs.SquareRoot.{sqrt};
-ghost use Rattle.floats.specs.RootDigits.{digit, two, after};
-ghost use Rattle.floats.specs.RootSteps.{InRange, Scaled, RootOf, IsNormal, Nearest};
+ghost use Rattle.floats.specs.RootDigits.{digit, twoBits, after};
+ghost use Rattle.floats.specs.RootSteps.{InRange, Placed, Scaled, RootOf, IsNormal, Nearest};
 
 // 2 ^ 52. In the pattern of a value that is not negative, bits / HIDDEN is the field of the exponent
 // and bits % HIDDEN the digits that are stored; a normal value has HIDDEN, its first digit, besides.
@@ -33,16 +33,16 @@ const FIRST_LEFT: u64 = 0x40000000;
 
 const SECOND_LEFT: u64 = 0x20000000;
 
-// ---- the operand: a value above 0 is scaled once, before the first digit
+// ---- the operand: a finite value above 0 is scaled once, before the first digit
 
-// A value above 0 is m * 4 ^ h times 2 ^ -2148, m being of 53 or 54 binary digits.
+// A finite value above 0 is m * 4 ^ h times 2 ^ -2148, m being of 53 or 54 binary digits.
 struct Operand {
     m: u64,
     h: u64,
 }
 
-// How many places up a number of at most 52 digits has 53.
-fn places(t: u64) -> u64
+// How many binary digits a number lacks to have 53, which leave 11 of the 64 bits in front.
+fn lacking(t: u64) -> u64
     requires { ⌜ (0 < t) × (t < 2 ^ 52) ⌝ }
     ensures { λ r. ⌜ (r ≤ 52) × (2 ^ 52 ≤ t * 2 ^ r) × (t * 2 ^ r < 2 ^ 53) ⌝ }
 {
@@ -52,7 +52,7 @@ fn places(t: u64) -> u64
 // The operand of d * 2 ^ e times 2 ^ -2148, d being of 53 digits: an odd exponent gives it one more.
 fn placed(d: u64, e: u64) -> Operand
     requires { ⌜ (2 ^ 52 ≤ d) × (d < 2 ^ 53) × (1022 ≤ e) × (e ≤ 3119) ⌝ }
-    ensures { λ r. ⌜ InRange r × (d * 2 ^ e ≡ r .m * 4 ^ (r .h)) ⌝ }
+    ensures { λ r. ⌜ Placed d e r ⌝ }
 {
     Operand {
         m: d * (e % 2 + 1),
@@ -60,7 +60,8 @@ fn placed(d: u64, e: u64) -> Operand
     }
 }
 
-// The operand of a finite value above 0, by its bit pattern. A subnormal's digits are shifted up to 53, all at once.
+// The operand of a finite value above 0, by its bit pattern. In units of 2 ^ -2148 a normal value is
+// (t + HIDDEN) * 2 ^ (f + 1073), and a subnormal t * 2 ^ 1074, whose digits are shifted up to 53 at once.
 fn scale(x: f64) -> Operand
     requires { ⌜ T (positive x) ⌝ }
     ensures { λ r. ⌜ Scaled x r ⌝ }
@@ -69,13 +70,13 @@ fn scale(x: f64) -> Operand
     let f = bits / HIDDEN;
     let t = bits % HIDDEN;
     if f == 0 {
-        let z = places(t);
+        let z = lacking(t);
         return placed(t << z, 1074 - z);
     }
     placed(t + HIDDEN, f + 1073)
 }
 
-// ---- by digits: no branch but the loop, so that the time does not depend on the digits
+// ---- by digits: no branch hangs on a digit, so that the time does not depend on them
 
 // 1 for true: a digit with no branch.
 fn bit(b: bool) -> u64
@@ -90,7 +91,7 @@ struct RootRem {
     rem: u64,
 }
 
-// One digit more, from two bits more. No sum here wraps at 56 digits, the most that 02 has.
+// One digit more, from two bits more. Nothing here wraps, even behind 56 digits, the most that 02 (iii) has.
 fn digit(root: u64, rem: u64, two: u64) -> RootRem
     requires { ⌜ (root < 2 ^ 56) × (rem ≤ 2 * root) × (two < 4) ⌝ }
     ensures { λ r. ⌜ r ≡ digit root rem two ⌝ }
@@ -104,10 +105,11 @@ fn digit(root: u64, rem: u64, two: u64) -> RootRem
     }
 }
 
-// The two bits of m * 2 ^ 52 that the digit behind i others takes: those of m by their places, from the top, and then zeros.
+// The two bits of m * 2 ^ 52 that the digit behind i others takes, from the top: those at their place in m, and
+// behind its 54 bits zeros. m is only read here, and the same at every digit.
 fn two_bits(m: u64, i: u64) -> u64
     requires { ⌜ i < 53 ⌝ }
-    ensures { λ r. ⌜ r ≡ two 53 (m * 2 ^ 52) i ⌝ }
+    ensures { λ r. ⌜ r ≡ twoBits 53 (m * 2 ^ 52) i ⌝ }
 {
     if i < 27 { (m >> (52 - 2 * i)) % 4 } else { 0 }
 }
@@ -127,7 +129,7 @@ fn digits(m: u64) -> RootRem
 }
 
 // The whole number nearest to the root of m * 2 ^ 52: the whole root, or one more where the remainder is
-// above it, the root being past the middle then. In the middle none is: its square is no whole number.
+// above it, the root being past the middle then. No root is in the middle, whose square is no whole number.
 fn nearest(m: u64) -> u64
     requires { ⌜ (0 < m) × (m < 2 ^ 54) ⌝ }
     ensures { λ r. ⌜ Nearest r (m * 2 ^ 52) ⌝ }
@@ -136,7 +138,8 @@ fn nearest(m: u64) -> u64
     s.root + bit(s.root < s.rem)
 }
 
-// The root of the value that has this operand, put together from its exponent and its 53 digits.
+// The root of the value that has this operand: nearest(m) * 2 ^ (h - 26) times 2 ^ -1074. The exponent's field is
+// h - 25, to which the first of the 53 digits adds its 1.
 fn root_of(a: Operand) -> f64
     requires { ⌜ InRange a ⌝ }
     ensures { λ r. ⌜ RootOf a r ⌝ }
@@ -238,8 +241,8 @@ fn is_nearest(m: u64, q: u64) -> bool
     w - t <= 2 * q
 }
 
-// Whether the guess g is the root of the value that has this operand: its exponent is the root's, and its digits are
-// the nearest to the root of m.
+// Whether the guess g is the root of the value that has this operand: its exponent's field is h - 25, and its digits
+// are the whole number nearest to the root of m * 2 ^ 52.
 fn is_root(g: f64, a: Operand) -> bool
     requires { ⌜ T (fits binary64 g) × InRange a ⌝ }
     ensures { λ r. ⌜ (T r → RootOf a g) ⌝ }

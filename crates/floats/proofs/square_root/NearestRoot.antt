@@ -20,7 +20,7 @@ use Rattle.floats.specs.SquareRoot.{isqrt, rootOfUnits, squareRoot, sqrt
 use Rattle.floats.proofs.Rounding.{rnd, below-or-from, pow-part, size-above}
 use Rattle.floats.proofs.Rounding.Units.{U, O, U-is, O-is, Is, mag, Held, is-of, units-pos}
 use Rattle.floats.proofs.square_root.WholeRoot.{Root, isqrt-root, even-root, rootOf-value, digits-of-root}
-use Rattle.floats.proofs.square_root.RootBits.{rootOf-fits, root-of, size-of, below-zero}
+use Rattle.floats.proofs.square_root.RootBits.{rootOf-fits, root-by-units, size-of, below-zero}
 use Rattle.floats.proofs.Rounding.NonNegative.{lt-of-pos}
 
 -- ---- numbers of 53 digits: from 2 ^ 52 steps of 2 ^ j on they are multiples of the step
@@ -273,7 +273,7 @@ above-zero (fin false zero e) f t l = absurd (none (up e) (down e) (ltb→lt (0 
 above-zero (fin false (suc m) e) f t l =
     let x = fin false (suc m) e in
     let i = is-of x tt t in
-    subst (λ (z : Float). NearestRoot x z) (sym (root-of m e)) (root-near x (mag x) (i .0) (i .1) (units-pos m (mag x) e (i .0 .1)))
+    subst (λ (z : Float). NearestRoot x z) (sym (root-by-units m e)) (root-near x (mag x) (i .0) (i .1) (units-pos m (mag x) e (i .0 .1)))
 
 pub nearest-root : SquareRoot sqrt
 unfolding squareRoot

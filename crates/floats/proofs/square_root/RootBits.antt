@@ -1,6 +1,7 @@
--- The parts of the square root's code on plain values: what each function computes is the root that specs/SquareRoot.antt defines.
+-- The bit pattern of a root, and the roots of the values that have no digits to compute.
 -- Proved: a value by its bit pattern (`bits-at`), and which patterns are no NaN's (`clean`);
--- the root of m * 4 ^ h has the digits that are nearest to the root of m (`root-at`, `nearest-pattern`); a value's units (`root-of`, `size-of`);
+-- the digits of the root of m * 4 ^ h are the whole number nearest to the root of m * 2 ^ 52 (`root-at`, `nearest-pattern`);
+-- the root of a value by its units (`root-by-units`), and its size (`size-of`);
 -- and the values that have no digits to compute (`nan-case`, `negative-case`, `zero-case`, `inf-case`).
 use mathlib.Core.Path.{_≡_, refl, sym, ap, _∙_, subst}
 use mathlib.Core.Logic.{inl, inr}
@@ -100,7 +101,7 @@ nearest-is-half : (q Q n : ℕ) → Nearest q n → Root Q (n * 4) → (Q + 1) /
 nearest-is-half zero Q n h r = absurd (let a = h .0 in let b = h .1 in omega arith)
 nearest-is-half (suc s) Q n h r = omega (arith, sq-lt Q (2 * s + 3) (omega arith), sq-lt (2 * s + 1) (Q + 1) (omega arith))
 
--- so the pattern that is put together is the root's
+-- it has 53 digits
 pub within : (q m : ℕ) → Nearest q (m * 2 ^ 52) → 2 ^ 52 ≤ m → m ≤ 2 ^ 54 - 2 → (2 ^ 52 ≤ q) × (q < 2 ^ 53)
 within q m h l u = (
   elim (below-or-from q (2 ^ 52)) [ inl g ↦ absurd (low g) | inr g ↦ g ],
@@ -117,6 +118,7 @@ within q m h l u = (
         less : (q : ℕ) → q * 2 ^ 53 ≡ q * (2 ^ 53 - 1) + q
         less q = omega arith
 
+-- so the pattern that is put together is the root's
 pub nearest-pattern : (q m h : ℕ) → Nearest q (m * 2 ^ 52) → 2 ^ 52 ≤ m → m ≤ 2 ^ 54 - 2 → 511 ≤ h → h ≤ 1559
     → RootFrom m h (ofBits B ((h - 26) * 2 ^ 52 + q))
 nearest-pattern q m h near l u lo hi n nO e =
@@ -152,9 +154,9 @@ nearest-pattern q m h near l u lo hi n nO e =
     back q k = omega arith
 
 -- ---- a value by its units
-pub root-of : (m : ℕ) (e : ℤ) → squareRoot B (fin false (suc m) e) ≡ rootOfUnits B (mag (fin false (suc m) e))
+pub root-by-units : (m : ℕ) (e : ℤ) → squareRoot B (fin false (suc m) e) ≡ rootOfUnits B (mag (fin false (suc m) e))
 unfolding squareRoot U
-root-of m e = refl
+root-by-units m e = refl
 
 pub size-of : (x : Float) (s : Bool) (n : ℕ) → Is x s n → Size x n
 unfolding U

@@ -10,11 +10,11 @@ use mathlib.Core.Bool.{Bool, true, false, not, cond}
 use lib.Dec.{T, leb, ltb, leb→le, ltb→lt, nleb→lt, nltb→le, lit<}
 use lib.Pow.{pow-add, pow-pos, pow-mono}
 use Rattle.floats.specs.RootSteps.{Nearest}
-use Rattle.floats.specs.RootDigits.{RootRem, SquareAndRest, EachDigit, rootRem, digit, two, taken, after}
+use Rattle.floats.specs.RootDigits.{RootRem, RootAndRemainder, EachDigit, rootRem, digit, twoBits, taken, after}
 
 -- ---- one digit
 abbrev Next : ℕ → ℕ → ℕ → RootRem → Type 0
-Next root rem two s = SquareAndRest (4 * (root * root + rem) + two) s × (s .root ≤ 2 * root + 1)
+Next root rem two s = RootAndRemainder (4 * (root * root + rem) + two) s × (s .root ≤ 2 * root + 1)
 
 next : (root rem two : ℕ) → rem ≤ 2 * root → two < 4 → Next root rem two (digit root rem two)
 unfolding digit
@@ -35,8 +35,8 @@ four-up : (n : ℕ) → 4 ^ suc n ≡ 4 ^ n * 4
 four-up n = ap (λ (z : ℕ). 4 ^ z) (sym (add-one n)) ∙ pow-add 4 n 1
 
 -- two bits more
-taken-up : (k N i : ℕ) → i < k → taken k N (suc i) ≡ 4 * taken k N i + two k N i
-unfolding taken two
+taken-up : (k N i : ℕ) → i < k → taken k N (suc i) ≡ 4 * taken k N i + twoBits k N i
+unfolding taken twoBits
 taken-up k N i h =
     let j = k - 1 - i in
     ap (λ (z : ℕ). N / 4 ^ z) (let e : k - suc i ≡ j = omega arith in e)
@@ -49,8 +49,8 @@ taken-up k N i h =
     split : (y : ℕ) → y ≡ 4 * (y / 4) + y % 4
     split y = omega arith
 
-two-small : (k N i : ℕ) → two k N i < 4
-unfolding two
+two-small : (k N i : ℕ) → twoBits k N i < 4
+unfolding twoBits
 two-small k N i = below (N / 4 ^ (k - 1 - i))
   where
     below : (y : ℕ) → y % 4 < 4
@@ -64,9 +64,9 @@ each-digit k N zero h l =
 each-digit k N (suc i) h l =
     let s = after k N i in
     let v = each-digit k N i h (omega arith) in
-    let n = next (s .root) (s .rem) (two k N i) (v .small) (two-small k N i) .0 in
+    let n = next (s .root) (s .rem) (twoBits k N i) (v .small) (two-small k N i) .0 in
     record {
-      same = n .same ∙ ap (λ (z : ℕ). 4 * z + two k N i) (v .same) ∙ sym (taken-up k N i l);
+      same = n .same ∙ ap (λ (z : ℕ). 4 * z + twoBits k N i) (v .same) ∙ sym (taken-up k N i l);
       small = n .small;
     }
 
@@ -76,7 +76,7 @@ width k N zero h l = lit< tt
 width k N (suc i) h l =
     let s = after k N i in
     let v = each-digit k N i h (omega arith) in
-    let n = next (s .root) (s .rem) (two k N i) (v .small) (two-small k N i) .1 in
+    let n = next (s .root) (s .rem) (twoBits k N i) (v .small) (two-small k N i) .1 in
     lt-of-lt-of-le (twice (s .root) (2 ^ i) (after k N (suc i) .root) (width k N i h (omega arith)) n)
     (le-of-eq (sym (pow-add 2 i 1) ∙ ap (λ (z : ℕ). 2 ^ z) (add-one i)))
   where
@@ -116,8 +116,8 @@ four-two (suc n) =
     ∙ ap (λ (z : ℕ). 2 ^ z) (let e : n + n + 2 ≡ suc n + suc n = omega arith in e)
 
 -- the bits of m
-pub two-high : (m i : ℕ) → i < 27 → m / 2 ^ (52 - 2 * i) % 4 ≡ two 53 (m * 2 ^ 52) i
-unfolding two
+pub two-high : (m i : ℕ) → i < 27 → m / 2 ^ (52 - 2 * i) % 4 ≡ twoBits 53 (m * 2 ^ 52) i
+unfolding twoBits
 two-high m i h =
     let j = 52 - 2 * i in
     let e : 4 ^ (52 - i) ≡ 2 ^ j * 2 ^ 52 =
@@ -125,8 +125,8 @@ two-high m i h =
     ap (λ (z : ℕ). z % 4) (sym (mul-div-mul-right m (2 ^ j) (pow-pos 52)) ∙ ap (λ (z : ℕ). m * 2 ^ 52 / z) (sym e))
 
 -- the zeros behind them
-pub two-low : (m i : ℕ) → 27 ≤ i → i < 53 → 0 ≡ two 53 (m * 2 ^ 52) i
-unfolding two
+pub two-low : (m i : ℕ) → 27 ≤ i → i < 53 → 0 ≡ twoBits 53 (m * 2 ^ 52) i
+unfolding twoBits
 two-low m i h l =
     let d = 52 - i in
     let a = i - 27 + (i - 27) in
@@ -148,9 +148,9 @@ under : (m : ℕ) → m < 2 ^ 54 → m * 2 ^ 52 < 4 ^ 53
 under m h = omega arith
 
 -- s is root and remainder after i digits, and w the next two bits
-module _ (m i w : ℕ) (s : RootRem) (h : m < 2 ^ 54) (l : i < 53) (a : s ≡ after 53 (m * 2 ^ 52) i) (b : w ≡ two 53 (m * 2 ^ 52) i) where
-  pub ready : (s .root < 2 ^ 56) × (s .rem ≤ 2 * s .root) × (w < 4)
-  ready =
+module _ (m i w : ℕ) (s : RootRem) (a : s ≡ after 53 (m * 2 ^ 52) i) (b : w ≡ twoBits 53 (m * 2 ^ 52) i) where
+  pub ready : m < 2 ^ 54 → i < 53 → (s .root < 2 ^ 56) × (s .rem ≤ 2 * s .root) × (w < 4)
+  ready h l =
       let N = m * 2 ^ 52 in
       rw (a, b) (
         lt-of-lt-of-le (width 53 N i (under m h) (omega arith)) (pow-mono {i = i} {j = 56} (omega arith)),
@@ -173,7 +173,7 @@ pub last-digit : (m c : ℕ) (s : RootRem) → 0 < m → m < 2 ^ 54 → s ≡ af
 unfolding taken
 last-digit m c s p h a e =
     let N = m * 2 ^ 52 in
-    let v : SquareAndRest (N / 1) s = rw a (each-digit 53 N 53 (under m h) (omega arith)) in (
+    let v : RootAndRemainder (N / 1) s = rw a (each-digit 53 N 53 (under m h) (omega arith)) in (
       rw a (width 53 N 53 (under m h) (omega arith)),
       go (s .root) (s .rem) N (omega arith) (v .same ∙ div-one N) (v .small) (ltb (s .root) (s .rem)) (ltb→lt (s .root) (s .rem))
           (nltb→le (s .root) (s .rem)) e,

@@ -1,5 +1,5 @@
 -- The operand of a value above 0, m * 4 ^ h, is the value's units times 2 ^ 1074.
--- Proved: how many places up a subnormal's digits go (`places-of`); d * 2 ^ e as m * 4 ^ h, by the parity of e (`placed-at`);
+-- Proved: how many digits a subnormal lacks (`lacking-of`); d * 2 ^ e as m * 4 ^ h, by the parity of e (`placed-at`);
 -- the units of a value from its bit pattern (`opened`), so that what `scale` returns is its operand
 -- (`subnormal-scaled`, `normal-scaled`); and the operand's root is the value's (`root-scaled`).
 use mathlib.Core.Path.{_≡_, refl, sym, ap, _∙_, subst}
@@ -17,20 +17,19 @@ use lib.Ieee.Order.{drop, kept}
 use lib.Ieee.Positive.{positive}
 use lib.Ieee.Fits.{kept-lt}
 use Rattle.floats.specs.SquareRoot.{Size, rootOfUnits, squareRoot}
-use Rattle.floats.specs.RootSteps.{Operand, InRange, Scaled, RootOf}
+use Rattle.floats.specs.RootSteps.{Operand, Placed, Scaled, RootOf}
 use Rattle.floats.proofs.Rounding.{below-or-from}
 use Rattle.floats.proofs.Rounding.Units.{U, O-is, Is, mag, is-of, is-same, Held, pattern, bits-of, units-pos}
-use Rattle.floats.proofs.Rounding.NonNegative.{held-of}
 use Rattle.floats.proofs.square_root.RootDigits.{four-two}
-use Rattle.floats.proofs.square_root.RootBits.{RootFrom, root-of, size-of}
+use Rattle.floats.proofs.square_root.RootBits.{RootFrom, root-by-units, size-of}
 
 abbrev B : Format
 B = binary64
 
--- ---- `places`: t has its first digit at j, so 52 - j places bring it to 52
-pub places-of : (t : ℕ) → 0 < t → t < 2 ^ 52
+-- ---- `lacking`: t has its first digit at j, so it lacks 52 - j of 53
+pub lacking-of : (t : ℕ) → 0 < t → t < 2 ^ 52
     → let z = leadingZeros 64 t - 11 in (11 ≤ leadingZeros 64 t) × (z ≤ 52) × (2 ^ 52 ≤ t * 2 ^ z) × (t * 2 ^ z < 2 ^ 53)
-places-of t some few =
+lacking-of t some few =
     let p = leading-top 64 t some (lt-of-lt-of-le few (lit≤ tt)) in
     let j = p .0 in
     let z = leadingZeros 64 t - 11 in
@@ -46,9 +45,6 @@ places-of t some few =
     )
 
 -- ---- `placed`: an odd exponent gives d a digit
-abbrev pub Placed : ℕ → ℕ → Operand → Type 0
-Placed d e a = InRange a × (d * 2 ^ e ≡ a .m * 4 ^ (a .h))
-
 pub placed-at : (d e : ℕ) → 2 ^ 52 ≤ d → d < 2 ^ 53 → 1022 ≤ e → e ≤ 3119 → Placed d e (record { m = d * (e % 2 + 1); h = e / 2 })
 placed-at d e dl du l u = go (e % 2) refl (let k : e % 2 < 2 = omega arith in k)
   where
@@ -122,7 +118,7 @@ opened (fin false (suc m) e) p f =
     let i = is-of x tt f in (
       subst (λ (b : ℕ). Unpacked b (mag x)) (sym (bits-of x false (mag x) (i .0)))
           (unpack (mag x) (i .1) (units-pos m (mag x) e (i .0 .1))),
-      root-of m e,
+      root-by-units m e,
       tt,
     )
 
@@ -132,7 +128,7 @@ units-of (fin false (suc m) e) p f = is-of (fin false (suc m) e) tt f .0
 -- an operand of the units is one of x
 scaled-from : (x : Float) (d e : ℕ) (a : Operand) → T (positive x) → T (fits B x) → mag x * 2 ^ 1074 ≡ d * 2 ^ e → Placed d e a → Scaled x a
 scaled-from x d e a p f q w =
-    record { holds = f; above = p; range = w .0; n = mag x; size = size-of x false (mag x) (units-of x p f); same = q ∙ w .1 }
+    record { holds = f; above = p; n = mag x; size = size-of x false (mag x) (units-of x p f); placed = (w .0, q ∙ w .1) }
 
 -- a subnormal's, its digits z places up
 pub subnormal-scaled : (x : Float) (z : ℕ) (a : Operand) → T (positive x) → T (fits B x) → toBits B x / 2 ^ 52 ≡ 0 → z ≤ 52
@@ -168,9 +164,7 @@ is-size (fin false m e) n p h = (refl, h)
 
 pub root-scaled : (a : Operand) (r : Float) → RootFrom (a .m) (a .h) r → RootOf a r
 root-scaled a r g x s =
-    let i = is-size x (s .n) (s .above) (s .size) in
-    let same : s .n ≡ mag x = is-same x false false (s .n) (mag x) i (units-of x (s .above) (s .holds)) .1 in
-    let under = held-of x false (s .n) (s .holds) i .1 in
-    g (s .n) (subst (λ (z : ℕ). s .n < z) O-is under) (s .same)
-    ∙ ap (λ (z : ℕ). rootOfUnits B z) same
-    ∙ sym (opened x (s .above) (s .holds) .1)
+    let same : s .n ≡ mag x =
+    is-same x false false (s .n) (mag x) (is-size x (s .n) (s .above) (s .size)) (units-of x (s .above) (s .holds)) .1 in
+    let o = opened x (s .above) (s .holds) in
+    g (mag x) (o .0 .under) (ap (λ (z : ℕ). z * 2 ^ 1074) (sym same) ∙ s .placed .1) ∙ sym (o .1)

@@ -13,7 +13,7 @@ use lib.Ieee.Fits.{and-l, up-pos}
 use Rattle.floats.specs.Float.{f0, max}
 use Rattle.floats.specs.SquareRoot.{sqrt, squareRoot, rootOfUnits}
 use Rattle.floats.proofs.Rounding.Units.{Is, mag, is-of, is-same, zero-units, O}
-use Rattle.floats.proofs.square_root.RootBits.{rootOf-fits, root-of}
+use Rattle.floats.proofs.square_root.RootBits.{rootOf-fits, root-by-units}
 use Rattle.floats.proofs.Rounding.Error.{Fin, sized}
 use Rattle.floats.proofs.square_root.WholeRoot.{RootErr, rootOf-err}
 
@@ -71,7 +71,7 @@ root-val (fin false zero e) n f i p = absurd (zero-units n e p (i .1))
 root-val (fin false (suc m) e) n f i p =
     let y = fin false (suc m) e in
     let same = is-same y false false (mag y) n (is-of y tt f .0) i .1 in
-    (root-of m e ∙ ap (λ (z : ℕ). rootOfUnits B z) same, max-pos (suc m) e)
+    (root-by-units m e ∙ ap (λ (z : ℕ). rootOfUnits B z) same, max-pos (suc m) e)
 
 pub record Rooted (y : Float) (n : ℕ) : Type 0 where
   pub kept : max y f0 ≡ y

@@ -9,5 +9,5 @@ by-digits-spec = tie.close (tie.spec (λ c. nan-case (c .before .args .x) (c .if
     (λ c. zero-case (c .before .before .before .args .x) (c .before .if2 .taken) (c .if3 .left)) (λ c. inf-not-nan)
     (λ c. inf-case (c .before .before .before .args .x) (c .if4 .taken))
     (λ c κs. positive-case (c .before .before .before .args .x) (c .before .before .if1 .left) (c .before .if2 .left) (c .if4 .left))
-    (λ c κs. c .scale .ensures .range)
+    (λ c κs. c .scale .ensures .placed .0)
     (λ c. c .root-of .ensures (c .before .before .before .before .before .args .x) (c .before .scale .ensures)))

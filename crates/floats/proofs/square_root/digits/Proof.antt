@@ -20,14 +20,14 @@ loop-holds c = (refl, omega arith)
 digit-requires : tie.Need-digit-requires Inv-loop μ-loop
 digit-requires c κs =
     let l = c .before .before .loop in
-    ready (c .before .before .before .args .m) (l .i) (c .two-bits .result) (l .s) (omega arith) (omega arith) (l .inv .0) (c .two-bits .ensures)
+    ready (c .before .before .before .args .m) (l .i) (c .two-bits .result) (l .s) (l .inv .0) (c .two-bits .ensures) (omega arith) (omega arith)
 
 loop-again : tie.Need-loop-again Inv-loop μ-loop
 loop-again c =
     let l = c .before .before .before .loop in
     let w = c .before .two-bits in
     let m = c .before .before .before .before .args .m in
-    (turn m (l .i) (w .result) (l .s) (omega arith) (omega arith) (l .inv .0) (w .ensures) (c .digit .result) (c .digit .ensures), omega arith)
+    (turn m (l .i) (w .result) (l .s) (l .inv .0) (w .ensures) (c .digit .result) (c .digit .ensures), omega arith)
 
 returns : tie.Need-returns Inv-loop μ-loop
 returns c =

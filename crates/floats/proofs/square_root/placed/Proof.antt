@@ -2,7 +2,8 @@
 use native.Mathlib.Omega.{arith}
 use borrow.Author.Needs.{needs}
 use Prim.Native.Nat.{_+_, _*_, _/_, _%_}
-use Rattle.floats.proofs.square_root.RootOperand.{Placed, placed-at}
+use Rattle.floats.specs.RootSteps.{Placed}
+use Rattle.floats.proofs.square_root.RootOperand.{placed-at}
 use Rattle.floats.proofs.square_root.placed.Statement.{statement}
 use Rattle.floats.proofs.square_root.placed.Tie as tie
 

@@ -18,5 +18,5 @@ returns-2 c = let s = c .before .before .before in c .root-of .ensures (s .befor
 
 pub sqrt-spec : {M : Type 1} → statement M
 sqrt-spec = tie.close (tie.spec (λ c κs. search needs) (λ c κs. normal c) (λ c κs. normal (c .before) .0)
-    (λ c κs. (c .before .guess .ensures, c .scale .ensures .range)) returns (λ c κs. c .before .before .scale .ensures .range) returns-2
+    (λ c κs. (c .before .guess .ensures, c .scale .ensures .placed .0)) returns (λ c κs. c .before .before .scale .ensures .placed .0) returns-2
     (λ c κs. search needs) (λ c. search needs))
