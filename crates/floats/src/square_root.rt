@@ -76,7 +76,7 @@ fn scale(x: f64) -> Operand
     placed(t + HIDDEN, f + 1073)
 }
 
-// ---- by digits: no branch hangs on a digit, so that the time does not depend on them
+// ---- by digits: no branch depends on a digit, so that the time does not either
 
 // 1 for true: a digit with no branch.
 fn bit(b: bool) -> u64
@@ -139,7 +139,7 @@ fn nearest(m: u64) -> u64
 }
 
 // The root of the value that has this operand: nearest(m) * 2 ^ (h - 26) times 2 ^ -1074. The exponent's field is
-// h - 25, to which the first of the 53 digits adds its 1.
+// h - 25, of which the first of the 53 digits is 1.
 fn root_of(a: Operand) -> f64
     requires { ⌜ InRange a ⌝ }
     ensures { λ r. ⌜ RootOf a r ⌝ }
