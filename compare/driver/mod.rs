@@ -1,6 +1,6 @@
 //! Compares the Rattle crates with lumo's Rust, function by function, and at 471 entries with a second reading.
 //!
-//! With no words, a million inputs for each function. A number: so many. --gate: fewer, for a gate.
+//! With no words, a million inputs for each function and ten million roots. A number: so many. --gate: fewer, for a gate.
 //! --seed N: other inputs. --library: the static library alone, ten million bounces and calls on lists, or as many as a number says.
 //! --sample FOLDER: writes answers of the Rust and of the second reading for the crates there. --bench: times. --rays [JOB]: the program `rays` in Rust.
 //! --bench-rays: times and memory of both programs.

@@ -83,8 +83,9 @@ fn powers_of_two() -> impl Iterator<Item = f64> {
     subnormals.chain(normal).map(f64::from_bits)
 }
 
-/// Squares of values of every length and size, as far as the format has them, rounded if need be. The root
-/// of an exact one ends early and leaves nothing: there a digit tested by `<` in the place of `<=` is wrong.
+/// Squares of values of every length and size, as far as the format has them, rounded if need be. Where the bits
+/// taken so far are a square, a digit tested by `<` in the place of `<=` is wrong. The double above an exact square
+/// shows it; behind the square itself only zeros follow, and the rounding mends it.
 fn squares() -> impl Iterator<Item = f64> {
     let of_one = |q: u64| powers_of_two().map(move |p| q as f64 * p);
     let roots = (0..53).flat_map(of_length).flat_map(of_one);

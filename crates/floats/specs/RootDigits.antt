@@ -1,5 +1,5 @@
--- The square root digit by digit, as 02 (iii) asks for it: the schoolbook's method in base 2, which takes two bits of the operand for
--- each digit of the root. Definitions only; `each-digit` of proofs/square_root/RootDigits.antt proves `EachDigit`.
+-- The square root digit by digit, as 02 (iii) asks for it: the digit recurrence in base 2 (Ercegovac and Lang, Digital Arithmetic, 2004,
+-- chapter 6), which takes two bits of the operand for each digit of the root. Definitions only; `each-digit` of proofs/square_root/RootDigits.antt proves `EachDigit`.
 use mathlib.Core.Path.{_≡_}
 use Prim.Native.Nat.{ℕ, zero, suc, _+_, _-_, _*_, _/_, _%_, _^_, _≤_, _<_}
 use mathlib.Core.Bool.{cond}
@@ -17,7 +17,7 @@ digit root rem two =
     let t = 4 * root + 1 in
     cond (leb t x) (rootRem (2 * root + 1) (x - t)) (rootRem (2 * root) x)
 
--- An operand N below 4 ^ k is k pairs of bits, zeros in front among them. The digit behind i others takes this pair, from the top:
+-- An operand N below 4 ^ k is k pairs of bits, zeros in front among them. The digit after i others takes this pair, from the top:
 unfoldable pub twoBits : ℕ → ℕ → ℕ → ℕ
 twoBits k N i = N / 4 ^ (k - 1 - i) % 4
 

@@ -105,8 +105,8 @@ fn digit(root: u64, rem: u64, two: u64) -> RootRem
     }
 }
 
-// The two bits of m * 2 ^ 52 that the digit behind i others takes, from the top: those at their place in m, and
-// behind its 54 bits zeros. m is only read here, and the same at every digit.
+// The two bits of m * 2 ^ 52 that the digit after i others takes, from the top: 27 pairs are m's own 54 bits, the
+// others zeros. m is only read, and is the same at every digit.
 fn two_bits(m: u64, i: u64) -> u64
     requires { ⌜ i < 53 ⌝ }
     ensures { λ r. ⌜ r ≡ twoBits 53 (m * 2 ^ 52) i ⌝ }
@@ -139,7 +139,7 @@ fn nearest(m: u64) -> u64
 }
 
 // The root of the value that has this operand: nearest(m) * 2 ^ (h - 26) times 2 ^ -1074. The exponent's field is
-// h - 25, of which the first of the 53 digits is 1.
+// h - 25: the first of the 53 digits adds 1 to the h - 26 that is put there.
 fn root_of(a: Operand) -> f64
     requires { ⌜ InRange a ⌝ }
     ensures { λ r. ⌜ RootOf a r ⌝ }

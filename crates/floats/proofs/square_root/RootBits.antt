@@ -1,7 +1,7 @@
 -- The bit pattern of a root, and the roots of the values that have no digits to compute.
 -- Proved: a value by its bit pattern (`bits-at`), and which patterns are no NaN's (`clean`);
 -- the digits of the root of m * 4 ^ h are the whole number nearest to the root of m * 2 ^ 52 (`root-at`, `nearest-pattern`);
--- the root of a value by its units (`root-by-units`), and its size (`size-of`);
+-- the root of a value by its units (`root-by-units`), and a value's size (`size-of`);
 -- and the values that have no digits to compute (`nan-case`, `negative-case`, `zero-case`, `inf-case`).
 use mathlib.Core.Path.{_≡_, refl, sym, ap, _∙_, subst}
 use mathlib.Core.Logic.{inl, inr}
@@ -96,7 +96,7 @@ root-at Q m h n r l u lo hi nO e =
     even : (m : ℕ) → m * 2 ^ 54 % 2 ≡ 0
     even m = omega arith
 
--- the nearest whole root is half the root of four times the number, rounded up
+-- the whole number nearest to the root of n is half the whole root of 4 * n, rounded up
 nearest-is-half : (q Q n : ℕ) → Nearest q n → Root Q (n * 4) → (Q + 1) / 2 ≡ q
 nearest-is-half zero Q n h r = absurd (let a = h .0 in let b = h .1 in omega arith)
 nearest-is-half (suc s) Q n h r = omega (arith, sq-lt Q (2 * s + 3) (omega arith), sq-lt (2 * s + 1) (Q + 1) (omega arith))

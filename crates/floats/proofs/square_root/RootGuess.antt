@@ -1,6 +1,6 @@
 -- The root by a guess that is checked: nothing is assumed of the guess, and the exact test that follows is proved.
 -- Proved: the test by the two parts of q places m * 2 ^ 52 between the squares of q - 1/2 and
--- q + 1/2, so a q that `is_nearest` accepts is the nearest whole root (`nearest-by-parts`); which values are normal (`above-zero`).
+-- q + 1/2, so a q that `is_nearest` accepts is the whole number nearest to the root (`nearest-by-parts`); what `is_normal` and `guess` need (`above-zero`, `positive-number`).
 use mathlib.Core.Path.{_≡_, sym, ap, _∙_, subst}
 use Prim.Native.Nat.{ℕ, zero, suc, _+_, _-_, _*_, _/_, _%_, _^_, _≤_, _<_}
 use native.Mathlib.Nat.{lt-irrefl, mul-le-mul, zero-lt-suc}
@@ -50,7 +50,7 @@ nearest-by-parts m q j k e f w t we te l u =
     between : (n s k q w t : ℕ) → w ≡ k + q → n + t ≡ s + k → t < w → w - t ≤ 2 * q → (s < n + q) × (n ≤ s + q)
     between n s k q w t a b c d = (omega arith, omega arith)
 
--- ---- `is_normal`
+-- ---- `is_normal` and `guess`
 pub above-zero : (x : Float) → lt (ofBits B 0) x ≡ true → T (not (isNan x)) × (toBits B x / 2 ^ 52 < 2047 → T (positive x))
 unfolding lt isNan toBits
 above-zero x e = go x (subst (λ (z : Float). T (lt z x)) zero-bits (passes (lt (ofBits B 0) x) e))
