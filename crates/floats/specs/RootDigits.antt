@@ -1,5 +1,6 @@
--- The square root digit by digit, as 02 (iii) asks for it: the digit recurrence in base 2 (Ercegovac and Lang, Digital Arithmetic, 2004,
--- chapter 6), which takes two bits of the operand for each digit of the root. Definitions only; `each-digit` of proofs/square_root/RootDigits.antt proves `EachDigit`.
+-- The square root digit by digit, as 02 (iii) asks for it: the digit recurrence in base 2 (Ercegovac and Lang,
+-- Digital Arithmetic, 2004, chapter 6), which takes two bits of the operand for each digit of the root.
+-- Definitions only; `each-digit` of proofs/square_root/RootDigits.antt proves `EachDigit`.
 use mathlib.Core.Path.{_≡_}
 use Prim.Native.Nat.{ℕ, zero, suc, _+_, _-_, _*_, _/_, _%_, _^_, _≤_, _<_}
 use mathlib.Core.Bool.{cond}

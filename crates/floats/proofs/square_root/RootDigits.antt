@@ -34,6 +34,14 @@ next root rem two h k = go (leb t x) (leb→le t x) (nleb→lt t x)
 four-up : (n : ℕ) → 4 ^ suc n ≡ 4 ^ n * 4
 four-up n = ap (λ (z : ℕ). 4 ^ z) (sym (add-one n)) ∙ pow-add 4 n 1
 
+pub four-two : (n : ℕ) → 4 ^ n ≡ 2 ^ (n + n)
+four-two zero = refl
+four-two (suc n) =
+    four-up n
+    ∙ ap (λ (z : ℕ). z * 4) (four-two n)
+    ∙ sym (pow-add 2 (n + n) 2)
+    ∙ ap (λ (z : ℕ). 2 ^ z) (let e : n + n + 2 ≡ suc n + suc n = omega arith in e)
+
 -- two bits more
 taken-up : (k N i : ℕ) → i < k → taken k N (suc i) ≡ 4 * taken k N i + twoBits k N i
 unfolding taken twoBits
@@ -107,14 +115,6 @@ bit-digit root rem two c = go (leb t x)
     go false e = rw e (ap (λ (z : ℕ). rootRem z (x - t * 0)) (add-zero (2 * root)) ∙ ap (rootRem (2 * root)) (let k : x - t * 0 ≡ x = omega arith in k))
 
 -- ---- `two_bits`: the operand is m * 2 ^ 52
-pub four-two : (n : ℕ) → 4 ^ n ≡ 2 ^ (n + n)
-four-two zero = refl
-four-two (suc n) =
-    four-up n
-    ∙ ap (λ (z : ℕ). z * 4) (four-two n)
-    ∙ sym (pow-add 2 (n + n) 2)
-    ∙ ap (λ (z : ℕ). 2 ^ z) (let e : n + n + 2 ≡ suc n + suc n = omega arith in e)
-
 -- the bits of m
 pub two-high : (m i : ℕ) → i < 27 → m / 2 ^ (52 - 2 * i) % 4 ≡ twoBits 53 (m * 2 ^ 52) i
 unfolding twoBits
