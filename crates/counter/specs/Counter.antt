@@ -6,7 +6,7 @@ use Rattle.numbers.specs.Refusal.{number, refuse, _then_, Answer, refused, give
 use Rattle.numbers.specs.Checked.{checkDirection, checkWavelength, checkLookup}
 use Rattle.numbers.specs.declared.vec3.Vec3.{Vec3}
 use Rattle.optics.specs.declared.{color.Color.Color, microfacet.Kind.Kind, microfacet.Surface.Surface}
-use Rattle.optics.specs.Surface.{Microsurface, isRoughnessGiven, etaAt, kAt, surface}
+use Rattle.optics.specs.Surface.{Outside, Microsurface, isRoughnessGiven, indexAt, kAt, surface}
 use Rattle.optics.specs.Check.{checkSpectra, checkSurface, checkEta, checkLookups, checkRandom, checkCirclePair}
 use Rattle.optics.specs.Facets as Facets
 use Rattle.optics.specs.Fresnel as Fresnel
@@ -37,9 +37,9 @@ refractAnswer RefractAnswer.None = given none
 refractAnswer RefractAnswer.Total = given total
 
 -- ---- making a surface
-unfoldable pub makeSurface : Kind → Float → List Float → List Float → Answer Surface
-makeSurface kind r eta k =
-    refuse 1 (isRoughnessGiven r) then checkSpectra kind eta k
+unfoldable pub makeSurface : Kind → Float → List Float → List Float → Outside → Answer Surface
+makeSurface kind r eta k outside =
+    refuse 1 (isRoughnessGiven r) then checkSpectra kind eta k outside
     ▷ given (surface kind r)
 
 -- ---- facet terms
@@ -72,12 +72,12 @@ disneyDiffuse m cosWo cosWi cosWh =
 unfoldable pub fAt : Microsurface → Vec3 → Vec3 → Float → Answer Float
 fAt m wo wh lambda =
     checkSurface m then checkDirection wo then checkDirection wh then checkLookup lambda
-    ▷ given (Fresnel.fAt wo wh (etaAt (m .eta) lambda) (kAt (m .eta) (m .k) lambda))
+    ▷ given (Fresnel.fAt wo wh (indexAt m lambda) (kAt (m .eta) (m .k) lambda))
 
 unfoldable pub f : Microsurface → Vec3 → Vec3 → Color → Answer Color
 f m wo wh lambda =
     checkSurface m then checkDirection wo then checkDirection wh then checkLookups lambda
-    ▷ given (Fresnel.f (m .eta) (m .k) wo wh lambda)
+    ▷ given (Fresnel.f (m .kind) (m .eta) (m .k) (m .outside) wo wh lambda)
 
 -- ---- sampler, mirror, bend
 unfoldable pub sampleNormal : Microsurface → Vec3 → Float → Float → Float → Answer Vec3

@@ -1,2 +1,3 @@
--- What the contracts of the crate cite: definitions only.
+-- What the contracts of the crate cite, and what is proved of it in air: definitions only.
 pub mod Counter
+pub mod Air

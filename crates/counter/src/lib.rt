@@ -29,7 +29,7 @@ use optics::microfacet::Kind;
 use optics::microfacet::Surface;
 ghost use mathlib.Core.Path.{_≡_};
 ghost use Rattle.numbers.specs.Checked.{floatAnswer, boolAnswer, vec3Answer};
-ghost use Rattle.optics.specs.Surface.{microsurface};
+ghost use Rattle.optics.specs.Surface.{medium, microsurface};
 ghost use Rattle.counter.specs.Counter as Counter;
 ghost use Rattle.counter.specs.Counter.{surfaceAnswer, colorAnswer, reflectAnswer, refractAnswer};
 
@@ -72,13 +72,20 @@ fn finite_only(density: f64) -> FloatAnswer
 
 // ---- making a surface
 // A surface from one roughness, which is raised to the least.
-pub fn make_surface(kind: Kind, roughness: f64, eta: &[f64], k: &[f64]) -> SurfaceAnswer
-    ensures { λ r. ⌜ surfaceAnswer r ≡ Counter.makeSurface kind roughness (now (eta .entry)) (now (k .entry)) ⌝ }
+pub fn make_surface(
+    kind: Kind,
+    roughness: f64,
+    eta: &[f64],
+    k: &[f64],
+    outer: &[f64],
+) -> SurfaceAnswer
+    ensures { λ r. ⌜ surfaceAnswer r ≡ Counter.makeSurface kind roughness (now (eta .entry)) (now (k .entry)) (medium (now (outer .entry))) ⌝ }
 {
     let check = refuse(Refusal::Roughness, float::within(0.0, 1.0, roughness)).then(check_spectra(
         kind,
         eta,
         k,
+        outer,
     ));
     if let Check::Refused(why) = check {
         return SurfaceAnswer::Refused(why);
@@ -91,10 +98,10 @@ pub fn make_surface(kind: Kind, roughness: f64, eta: &[f64], k: &[f64]) -> Surfa
 }
 
 // ---- facet terms
-pub fn is_delta(surface: Surface, eta: &[f64], k: &[f64]) -> BoolAnswer
-    ensures { λ r. ⌜ boolAnswer r ≡ Counter.isDelta (microsurface surface (now (eta .entry)) (now (k .entry))) ⌝ }
+pub fn is_delta(surface: Surface, eta: &[f64], k: &[f64], outer: &[f64]) -> BoolAnswer
+    ensures { λ r. ⌜ boolAnswer r ≡ Counter.isDelta (microsurface surface (now (eta .entry)) (now (k .entry)) (now (outer .entry))) ⌝ }
 {
-    if let Check::Refused(why) = check_surface(surface, eta, k) {
+    if let Check::Refused(why) = check_surface(surface, eta, k, outer) {
         return BoolAnswer::Refused(why);
     }
     let roughness = surface.roughness;
@@ -102,10 +109,10 @@ pub fn is_delta(surface: Surface, eta: &[f64], k: &[f64]) -> BoolAnswer
     BoolAnswer::Given(facets.is_delta())
 }
 
-pub fn lambda(surface: Surface, eta: &[f64], k: &[f64], w: Vec3) -> FloatAnswer
-    ensures { λ r. ⌜ floatAnswer r ≡ Counter.lambda (microsurface surface (now (eta .entry)) (now (k .entry))) w ⌝ }
+pub fn lambda(surface: Surface, eta: &[f64], k: &[f64], outer: &[f64], w: Vec3) -> FloatAnswer
+    ensures { λ r. ⌜ floatAnswer r ≡ Counter.lambda (microsurface surface (now (eta .entry)) (now (k .entry)) (now (outer .entry))) w ⌝ }
 {
-    let check = check_surface(surface, eta, k).then(check_direction(w));
+    let check = check_surface(surface, eta, k, outer).then(check_direction(w));
     if let Check::Refused(why) = check {
         return FloatAnswer::Refused(why);
     }
@@ -114,10 +121,17 @@ pub fn lambda(surface: Surface, eta: &[f64], k: &[f64], w: Vec3) -> FloatAnswer
     FloatAnswer::Given(facets.lambda(w))
 }
 
-pub fn chi_pass(surface: Surface, eta: &[f64], k: &[f64], wo: Vec3, wh: Vec3) -> BoolAnswer
-    ensures { λ r. ⌜ boolAnswer r ≡ Counter.chiPass (microsurface surface (now (eta .entry)) (now (k .entry))) wo wh ⌝ }
+pub fn chi_pass(
+    surface: Surface,
+    eta: &[f64],
+    k: &[f64],
+    outer: &[f64],
+    wo: Vec3,
+    wh: Vec3,
+) -> BoolAnswer
+    ensures { λ r. ⌜ boolAnswer r ≡ Counter.chiPass (microsurface surface (now (eta .entry)) (now (k .entry)) (now (outer .entry))) wo wh ⌝ }
 {
-    let check = check_surface(surface, eta, k)
+    let check = check_surface(surface, eta, k, outer)
         .then(check_direction(wo))
         .then(check_direction(wh));
     if let Check::Refused(why) = check {
@@ -126,10 +140,17 @@ pub fn chi_pass(surface: Surface, eta: &[f64], k: &[f64], wo: Vec3, wh: Vec3) ->
     BoolAnswer::Given(microfacet::chi_pass(wo, wh))
 }
 
-pub fn g1(surface: Surface, eta: &[f64], k: &[f64], wo: Vec3, wh: Vec3) -> FloatAnswer
-    ensures { λ r. ⌜ floatAnswer r ≡ Counter.g1 (microsurface surface (now (eta .entry)) (now (k .entry))) wo wh ⌝ }
+pub fn g1(
+    surface: Surface,
+    eta: &[f64],
+    k: &[f64],
+    outer: &[f64],
+    wo: Vec3,
+    wh: Vec3,
+) -> FloatAnswer
+    ensures { λ r. ⌜ floatAnswer r ≡ Counter.g1 (microsurface surface (now (eta .entry)) (now (k .entry)) (now (outer .entry))) wo wh ⌝ }
 {
-    let check = check_surface(surface, eta, k)
+    let check = check_surface(surface, eta, k, outer)
         .then(check_direction(wo))
         .then(check_direction(wh));
     if let Check::Refused(why) = check {
@@ -140,10 +161,18 @@ pub fn g1(surface: Surface, eta: &[f64], k: &[f64], wo: Vec3, wh: Vec3) -> Float
     FloatAnswer::Given(facets.g1(wo, wh))
 }
 
-pub fn g(surface: Surface, eta: &[f64], k: &[f64], wo: Vec3, wi: Vec3, wh: Vec3) -> FloatAnswer
-    ensures { λ r. ⌜ floatAnswer r ≡ Counter.g (microsurface surface (now (eta .entry)) (now (k .entry))) wo wi wh ⌝ }
+pub fn g(
+    surface: Surface,
+    eta: &[f64],
+    k: &[f64],
+    outer: &[f64],
+    wo: Vec3,
+    wi: Vec3,
+    wh: Vec3,
+) -> FloatAnswer
+    ensures { λ r. ⌜ floatAnswer r ≡ Counter.g (microsurface surface (now (eta .entry)) (now (k .entry)) (now (outer .entry))) wo wi wh ⌝ }
 {
-    let check = check_surface(surface, eta, k)
+    let check = check_surface(surface, eta, k, outer)
         .then(check_direction(wo))
         .then(check_direction(wi))
         .then(check_direction(wh));
@@ -155,10 +184,10 @@ pub fn g(surface: Surface, eta: &[f64], k: &[f64], wo: Vec3, wi: Vec3, wh: Vec3)
     FloatAnswer::Given(facets.g(wo, wi, wh))
 }
 
-pub fn d(surface: Surface, eta: &[f64], k: &[f64], wh: Vec3) -> FloatAnswer
-    ensures { λ r. ⌜ floatAnswer r ≡ Counter.d (microsurface surface (now (eta .entry)) (now (k .entry))) wh ⌝ }
+pub fn d(surface: Surface, eta: &[f64], k: &[f64], outer: &[f64], wh: Vec3) -> FloatAnswer
+    ensures { λ r. ⌜ floatAnswer r ≡ Counter.d (microsurface surface (now (eta .entry)) (now (k .entry)) (now (outer .entry))) wh ⌝ }
 {
-    let check = check_surface(surface, eta, k).then(check_direction(wh));
+    let check = check_surface(surface, eta, k, outer).then(check_direction(wh));
     if let Check::Refused(why) = check {
         return FloatAnswer::Refused(why);
     }
@@ -172,13 +201,14 @@ pub fn disney_diffuse(
     surface: Surface,
     eta: &[f64],
     k: &[f64],
+    outer: &[f64],
     cos_theta_wo: f64,
     cos_theta_wi: f64,
     cos_theta_wh: f64,
 ) -> FloatAnswer
-    ensures { λ r. ⌜ floatAnswer r ≡ Counter.disneyDiffuse (microsurface surface (now (eta .entry)) (now (k .entry))) «cos_theta_wo» «cos_theta_wi» «cos_theta_wh» ⌝ }
+    ensures { λ r. ⌜ floatAnswer r ≡ Counter.disneyDiffuse (microsurface surface (now (eta .entry)) (now (k .entry)) (now (outer .entry))) «cos_theta_wo» «cos_theta_wi» «cos_theta_wh» ⌝ }
 {
-    if let Check::Refused(why) = check_surface(surface, eta, k) {
+    if let Check::Refused(why) = check_surface(surface, eta, k, outer) {
         return FloatAnswer::Refused(why);
     }
     let roughness = surface.roughness;
@@ -191,34 +221,45 @@ pub fn f_at(
     surface: Surface,
     eta: &[f64],
     k: &[f64],
+    outer: &[f64],
     wo: Vec3,
     wh: Vec3,
     lambda: f64,
 ) -> FloatAnswer
-    ensures { λ r. ⌜ floatAnswer r ≡ Counter.fAt (microsurface surface (now (eta .entry)) (now (k .entry))) wo wh lambda ⌝ }
+    ensures { λ r. ⌜ floatAnswer r ≡ Counter.fAt (microsurface surface (now (eta .entry)) (now (k .entry)) (now (outer .entry))) wo wh lambda ⌝ }
 {
-    let check = check_surface(surface, eta, k)
+    let check = check_surface(surface, eta, k, outer)
         .then(check_direction(wo))
         .then(check_direction(wh))
         .then(check_lookup(lambda));
     if let Check::Refused(why) = check {
         return FloatAnswer::Refused(why);
     }
-    let at = microfacet::optical_constants(eta, k, lambda);
+    let kind = surface.kind;
+    let at = microfacet::optical_constants(kind, eta, k, outer, lambda);
     FloatAnswer::Given(microfacet::f_at(wo, wh, at.eta, at.k))
 }
 
-pub fn f(surface: Surface, eta: &[f64], k: &[f64], wo: Vec3, wh: Vec3, lambda: Color) -> ColorAnswer
-    ensures { λ r. ⌜ colorAnswer r ≡ Counter.f (microsurface surface (now (eta .entry)) (now (k .entry))) wo wh lambda ⌝ }
+pub fn f(
+    surface: Surface,
+    eta: &[f64],
+    k: &[f64],
+    outer: &[f64],
+    wo: Vec3,
+    wh: Vec3,
+    lambda: Color,
+) -> ColorAnswer
+    ensures { λ r. ⌜ colorAnswer r ≡ Counter.f (microsurface surface (now (eta .entry)) (now (k .entry)) (now (outer .entry))) wo wh lambda ⌝ }
 {
-    let check = check_surface(surface, eta, k)
+    let check = check_surface(surface, eta, k, outer)
         .then(check_direction(wo))
         .then(check_direction(wh))
         .then(check_lookups(lambda));
     if let Check::Refused(why) = check {
         return ColorAnswer::Refused(why);
     }
-    ColorAnswer::Given(microfacet::f(eta, k, wo, wh, lambda))
+    let kind = surface.kind;
+    ColorAnswer::Given(microfacet::f(kind, eta, k, outer, wo, wh, lambda))
 }
 
 // ---- sampler, mirror, bend
@@ -226,14 +267,15 @@ pub fn sample_normal(
     surface: Surface,
     eta: &[f64],
     k: &[f64],
+    outer: &[f64],
     wo: Vec3,
     disk: f64,
     c: f64,
     s: f64,
 ) -> Vec3Answer
-    ensures { λ r. ⌜ vec3Answer r ≡ Counter.sampleNormal (microsurface surface (now (eta .entry)) (now (k .entry))) wo disk c s ⌝ }
+    ensures { λ r. ⌜ vec3Answer r ≡ Counter.sampleNormal (microsurface surface (now (eta .entry)) (now (k .entry)) (now (outer .entry))) wo disk c s ⌝ }
 {
-    let check = check_surface(surface, eta, k)
+    let check = check_surface(surface, eta, k, outer)
         .then(check_direction(wo))
         .then(check_random(disk))
         .then(check_circle_pair(c, s));
@@ -280,22 +322,23 @@ pub fn pdf(
     surface: Surface,
     eta: &[f64],
     k: &[f64],
+    outer: &[f64],
     wo: Vec3,
     wi: Vec3,
     reflection: bool,
     lambda: f64,
 ) -> FloatAnswer
-    ensures { λ r. ⌜ floatAnswer r ≡ Counter.pdf (microsurface surface (now (eta .entry)) (now (k .entry))) wo wi reflection lambda ⌝ }
+    ensures { λ r. ⌜ floatAnswer r ≡ Counter.pdf (microsurface surface (now (eta .entry)) (now (k .entry)) (now (outer .entry))) wo wi reflection lambda ⌝ }
 {
-    let check = check_surface(surface, eta, k)
+    let check = check_surface(surface, eta, k, outer)
         .then(check_direction(wo))
         .then(check_direction(wi))
         .then(check_wavelength(lambda));
     if let Check::Refused(why) = check {
         return FloatAnswer::Refused(why);
     }
-    let at = microfacet::optical_constants(eta, k, lambda);
     let kind = surface.kind;
+    let at = microfacet::optical_constants(kind, eta, k, outer, lambda);
     let roughness = surface.roughness;
     let facets = Ggx { roughness };
     finite_only(bxdf::pdf(kind, facets, wo, wi, reflection, at.eta, at.k))

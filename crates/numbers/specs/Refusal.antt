@@ -2,7 +2,7 @@
 use Prim.Native.Nat.{ℕ}
 use mathlib.Core.Bool.{Bool, cond}
 pub use Rattle.numbers.specs.declared.refusal.{Refusal.Refusal, Check.Check}
-use Rattle.numbers.specs.declared.refusal.Refusal.the-variants.{Roughness, Eta, K, Wavelength, Direction, RandomNumber, CirclePair, Filter, NotFinite, Power, Full, Id}
+use Rattle.numbers.specs.declared.refusal.Refusal.the-variants.{Roughness, Eta, K, Wavelength, Direction, RandomNumber, CirclePair, Filter, NotFinite, Power, Full, Id, Outer}
 
 -- the number of each ground of refusal
 unfoldable pub number : Refusal → ℕ
@@ -18,6 +18,7 @@ number NotFinite = 9
 number Power = 10
 number Full = 11
 number Id = 12
+number Outer = 13
 
 -- ---- a check: passed, or failed with its number
 pub data Verdict : Type 0 where

@@ -186,7 +186,7 @@ fn before(i: u64) -> u64
 }
 
 // The entry at `i`, and NaN past the end.
-fn entry(values: &[f64], i: u64) -> f64
+pub fn entry(values: &[f64], i: u64) -> f64
     ensures { λ r. ⌜ r ≡ getD (now (values .entry)) i nan ⌝ }
 {
     if i < values.len() as u64 {

@@ -17,6 +17,7 @@ pub enum Refusal {
     Power,
     Full,
     Id,
+    Outer,
 }
 
 // Whether a check passed, and why not.
@@ -43,6 +44,7 @@ impl Refusal {
             Refusal::Power => 10,
             Refusal::Full => 11,
             Refusal::Id => 12,
+            Refusal::Outer => 13,
         }
     }
 }

@@ -17,7 +17,7 @@ use Rattle.numbers.specs.declared.vec2.Vec2.{Vec2}
 use Rattle.numbers.specs.declared.vec3.Vec3.{Vec3}
 use Rattle.optics.specs.Facets.{isDelta, g1, d, sampleNormalPdf}
 use Rattle.optics.specs.Fresnel.{fAt}
-use Rattle.optics.specs.Surface.{Microsurface, etaHolds, kHolds, etaAt, kAt}
+use Rattle.optics.specs.Surface.{Microsurface, etaHolds, kHolds, outerHolds, indexAt, kAt}
 use Rattle.optics.specs.Bxdf.{isSmooth, rest}
 use Rattle.optics.specs.Density.{f4, atZ, mirroredPdf, bentPdf, conductorHalf, conductorPdfFrom, conductorPdf, etaRatio, dielectricHalf, isDiscarded, reflectedPdf, passedPdf, dielectricPdfFrom, dielectricPdf, pdfOf, pdf}
 use Rattle.optics.specs.declared.microfacet.Kind.{Kind}
@@ -25,7 +25,8 @@ use Rattle.optics.specs.declared.microfacet.Kind.the-variants.{Metal, Gl
 use Rattle.optics.proofs.AnyCosine.{NanOrShare, fresnel-any}
 use Rattle.floats.proofs.Rounding.Signs.{Plus, NotNegative, plus-not-below, abs-plus, mul-plus, square-plus, mul-not-below, div-not-below, max-not-below, not-below-le, share-not-below}
 use Rattle.optics.proofs.Glass.{shares-of, dot-fits, share-fits}
-use Rattle.optics.proofs.Spectra.{eta-index, glass-k-zero}
+use Rattle.optics.proofs.Spectra.{glass-k-zero}
+use Rattle.optics.proofs.Outer.{OuterFit, index-in}
 
 abbrev B : Format
 B = binary64
@@ -155,22 +156,22 @@ density-of-not-below Metal a eta k reflection wo wi h = go reflection
     go false = f0-not-below
 density-of-not-below Glass a eta k reflection wo wi h = dielectric-not-below a eta k reflection wo wi (h refl .0) (h refl .1)
 
-pub density-not-below : (m : Microsurface) (wo wi : Vec3) (reflection : Bool) (lambda : Float) → AllFit (m .eta) → AllFit (m .k)
+pub density-not-below : (m : Microsurface) (wo wi : Vec3) (reflection : Bool) (lambda : Float) → AllFit (m .eta) → AllFit (m .k) → OuterFit (m .outside)
     → T (fits B lambda)
-    → T (etaHolds (m .eta)) → T (kHolds (m .kind) (m .eta) (m .k)) → T (isWavelength lambda)
+    → T (etaHolds (m .eta)) → T (kHolds (m .kind) (m .eta) (m .k)) → T (outerHolds (m .kind) (m .eta) (m .outside)) → T (isWavelength lambda)
     → T (isFinite (pdf m wo wi reflection lambda)) → T (le f0 (pdf m wo wi reflection lambda))
 unfolding pdf
-density-not-below m wo wi reflection lambda fits-eta fits-k fits-lambda eta-holds k-holds w f =
+density-not-below m wo wi reflection lambda fits-eta fits-k fits-outer fits-lambda eta-holds k-holds outer-holds w f =
     not-below-le (pdf m wo wi reflection lambda) (density-of-not-below (m .kind) (m .roughness) eta k reflection wo wi on-glass) f
   where
     eta : Float
-    eta = etaAt (m .eta) lambda
+    eta = indexAt m lambda
 
     k : Float
     k = kAt (m .eta) (m .k) lambda
 
     on-glass : m .kind ≡ Glass → Index eta × T (eq k f0)
     on-glass e = (
-      eta-index (m .eta) lambda fits-eta eta-holds fits-lambda w,
+      index-in m lambda fits-eta fits-outer eta-holds outer-holds fits-lambda w,
       glass-k-zero (m .eta) (m .k) lambda fits-k (subst (λ (kind : Kind). T (kHolds kind (m .eta) (m .k))) e k-holds) fits-lambda w,
     )

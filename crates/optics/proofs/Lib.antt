@@ -9,4 +9,6 @@ pub mod FresnelSign
 pub mod Glass
 pub mod Shadowing
 pub mod Spectra
+pub mod Outer
+pub mod Air
 pub mod Densities

@@ -11,13 +11,14 @@ use Rattle.numbers.specs.Vec3.{negate, dot}
 use Rattle.numbers.specs.declared.vec2.Vec2.{Vec2}
 use Rattle.numbers.specs.declared.vec3.Vec3.{Vec3}
 use Rattle.optics.specs.Facets.{isDelta, lambda, chiPass, masked, g1, g, gOverG1, sampleNormalPdf}
-use Rattle.numbers.specs.DenseSpectrum.{stepOf}
+use Rattle.numbers.specs.DenseSpectrum.{stepOf, isConstant}
 use Rattle.optics.specs.Color.{Color}
-use Rattle.optics.specs.Surface.{etaFrom, kFrom, etaAt, kAt}
+use Rattle.optics.specs.Surface.{Metal, Glass, Outside, medium, kFrom, etaAt, kAt, outerAt, indexOn}
 use Rattle.optics.specs.Fresnel.{indexFrom, sin2I, cosI, frFacing, frReal, fresnel, fAt, f}
 use Rattle.optics.specs.Bxdf.{refractFacing, refract, Scattered, isSmooth, dielectricFrom}
 use Rattle.optics.specs.Density.{conductorHalf, conductorPdfFrom, conductorPdf, etaRatio, dielectricHalf, reflectedPdf, passedPdf, dielectricPdfFrom, dielectricPdf}
-use Rattle.optics.specs.SharedTerms.{Snell, azimuth, chiPassAt, g1At, gOverG1At, sampleNormalPdfAt, snell, frRealFrom, fresnelFrom, refractFacingFrom, refractFrom, dielectricFromSnell, fFrom}
+use Rattle.optics.specs.SharedTerms.{Snell, azimuth, chiPassAt, g1At, gOverG1At, sampleNormalPdfAt, snell, frRealFrom, fresnelFrom, refractFacingFrom, refractFrom, dielectricFromSnell, outerFrom, quotientFrom, fMetalFrom, fGlassFrom}
+use Rattle.optics.specs.Known.{Known, knownOnGlass}
 use Rattle.optics.proofs.Cosine.{dot-comm, sin2-abs, sin2-neg}
 
 -- ---- the azimuth
@@ -122,14 +123,24 @@ glass-density a l eta k reflection wo wi λwo e ratio er wh h = rw (e, ← er, �
     go false = rw (normal-density a wh wo)
 
 -- ---- the step of the spectra
-pub f-from : (eta k : List Float) (wo wh : Vec3) (lambda : Color) → fFrom (stepOf eta) eta k wo wh lambda ≡ f eta k wo wh lambda
-unfolding fFrom f etaAt kAt
-f-from eta k wo wh lambda = refl
+-- on metal, whatever lies outside
+pub f-metal-from : (eta k : List Float) (outside : Outside) (wo wh : Vec3) (lambda : Color)
+    → fMetalFrom (stepOf eta) eta k wo wh lambda ≡ f Metal eta k outside wo wh lambda
+unfolding fMetalFrom f indexOn etaAt kAt
+f-metal-from eta k outside wo wh lambda = refl
 
-pub eta-from : (step : Float) (eta : List Float) (wl : Float) → step ≡ stepOf eta → (n : Float) → n ≡ etaFrom step eta wl → n ≡ etaAt eta wl
-unfolding etaAt
-eta-from step eta wl s n e = e ∙ ap (λ (x : Float). etaFrom x eta wl) s
+-- on glass, with what is known of its spectra
+pub f-glass-from : (eta k outer : List Float) (wo wh : Vec3) (lambda : Color)
+    → fGlassFrom (isConstant outer) (stepOf eta) eta k outer wo wh lambda ≡ f Glass eta k (medium outer) wo wh lambda
+unfolding fGlassFrom f quotientFrom outerFrom indexOn etaAt outerAt kAt
+f-glass-from eta k outer wo wh lambda = refl
 
-pub k-from : (step : Float) (eta k : List Float) (wl : Float) → step ≡ stepOf eta → (x : Float) → x ≡ kFrom step k wl → x ≡ kAt eta k wl
-unfolding kAt
-k-from step eta k wl s x e = e ∙ ap (λ (y : Float). kFrom y k wl) s
+pub index-from-known : (eta outer : List Float) (wl : Float) (known : Known) → known ≡ knownOnGlass eta outer
+    → (n : Float) → n ≡ quotientFrom (known .«outer_constant») (known .step) eta outer wl → n ≡ indexOn Glass eta (medium outer) wl
+unfolding indexOn etaAt outerAt quotientFrom outerFrom knownOnGlass
+index-from-known eta outer wl known s n e = e ∙ ap (λ (x : Known). quotientFrom (x .«outer_constant») (x .step) eta outer wl) s
+
+pub k-from-known : (eta k outer : List Float) (wl : Float) (known : Known) → known ≡ knownOnGlass eta outer
+    → (x : Float) → x ≡ kFrom (known .step) k wl → x ≡ kAt eta k wl
+unfolding kAt knownOnGlass
+k-from-known eta k outer wl known s x e = e ∙ ap (λ (y : Known). kFrom (y .step) k wl) s

@@ -4,7 +4,7 @@
 use mathlib.Core.Path.{_≡_, refl, sym, ap, _∙_, subst}
 use mathlib.Core.Logic.{inl, inr}
 use mathlib.Core.Bool.{Bool·beq, Bool, true, false, _&&_, _||_, cond}
-use mathlib.Core.List.{List}
+use mathlib.Core.List.{List, [], _∷_}
 use Prim.Native.Nat.{ℕ, zero, suc, _-_, _*_, _≤_, _<_, zero-le}
 use native.Mathlib.Nat.{le-trans, le-of-eq, lt-of-le-of-lt, not-le-of-lt, mul-pos, zero-lt-suc}
 use native.Mathlib.Omega.{arith}
@@ -19,6 +19,7 @@ use Rattle.numbers.proofs.dense_spectrum.Interpolation.{Read, Index, read-index
 use Rattle.floats.proofs.Rounding.Shares.{shares}
 use Rattle.floats.specs.Float.{_⊕_, _⊖_, _⊗_, f0, f1, decimal, within}
 use Rattle.numbers.specs.DenseSpectrum.{stepOf, isTable, oneSpacing, terminated, entry, interpolate, upperPoint, upperLambda, upperWeight, sampleOneAt, sampleOne, allWithin, isWavelength}
+use Rattle.optics.specs.F64.{AllF64}
 use Rattle.optics.specs.Surface.{etaMin, etaMax, etaHolds, allZero, kEntriesHold, kHolds, etaFrom, kFrom, etaAt, kAt}
 use Rattle.optics.specs.declared.microfacet.{Kind.Kind, Kind.the-variants.Glass}
 use Rattle.floats.proofs.Rounding.Sizes.{f0-upto, f0-parts, fine-N}
@@ -28,8 +29,15 @@ use Rattle.numbers.proofs.dense_spectrum.Spacing.{shared-step}
 abbrev B : Format
 B = binary64
 
+-- ---- entries of binary64, by their index; NaN past the end is a value of the format too
+pub all-fit : (values : List Float) → AllF64 values → AllFit values
+unfolding AllF64 fits
+all-fit [] h i = tt
+all-fit (x ∷ xs) h zero = h .0
+all-fit (x ∷ xs) h (suc i) = all-fit xs (h .1) i
+
 -- ---- eta
-max-is : etaMax ≡ decimal 100 1
+pub max-is : etaMax ≡ decimal 100 1
 unfolding decimal
 max-is = refl
 

@@ -4,16 +4,16 @@ use lib.Ieee.{Float, lt, le}
 use Rattle.floats.specs.Float.{_⊕_, _⊗_, f0, f1, f-1, decimal, within}
 use Rattle.numbers.specs.DenseSpectrum.{isLookupWavelength}
 use Rattle.numbers.specs.Refusal.{Verdict, refuse, _then_}
-use Rattle.optics.specs.Surface.{Kind, Microsurface, roughnessHolds, etaHolds, kHolds, isEta}
+use Rattle.optics.specs.Surface.{Kind, Outside, Microsurface, roughnessHolds, etaHolds, kHolds, outerHolds, isEta}
 use Rattle.optics.specs.Color.{Color, all4}
 
--- what a surface holds beside its roughness: 2 eta, 3 k, a length unlike eta's included
-unfoldable pub checkSpectra : Kind → List Float → List Float → Verdict
-checkSpectra kind eta k = refuse 2 (etaHolds eta) then refuse 3 (kHolds kind eta k)
+-- what a surface holds beside its roughness: 2 eta; 3 k and, on glass, 13 the outer spectrum, a length unlike eta's included
+unfoldable pub checkSpectra : Kind → List Float → List Float → Outside → Verdict
+checkSpectra kind eta k outside = refuse 2 (etaHolds eta) then refuse 3 (kHolds kind eta k) then refuse 13 (outerHolds kind eta outside)
 
 -- the fields of a surface: 1 roughness, then its spectra
 unfoldable pub checkSurface : Microsurface → Verdict
-checkSurface m = refuse 1 (roughnessHolds (m .roughness)) then checkSpectra (m .kind) (m .eta) (m .k)
+checkSurface m = refuse 1 (roughnessHolds (m .roughness)) then checkSpectra (m .kind) (m .eta) (m .k) (m .outside)
 
 -- the index of a lone bend
 unfoldable pub checkEta : Float → Verdict

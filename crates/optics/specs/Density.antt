@@ -1,5 +1,5 @@
 -- The densities of the samplers of metal and glass, in the order of operations of lumo's src/tracer/bxdf/microfacet.rs. Definitions only.
--- A NaN inside follows IEEE comparisons and `max`. eta and k are those at the leading wavelength, and normalPdf is the density of the facet's normal wh.
+-- A NaN inside follows IEEE comparisons and `max`. eta is the index and k the absorption at the leading wavelength, and normalPdf is the density of the facet's normal wh.
 use mathlib.Core.Bool.{Bool, false, _||_, cond}
 use lib.IntN.{pos}
 use lib.Ieee.{Float, fin, lt, eq}
@@ -9,7 +9,7 @@ use Rattle.numbers.specs.SphericalUtils.{cosTheta, sameHemisphere}
 use Rattle.numbers.specs.declared.{vec2.Vec2.Vec2, vec3.Vec3.Vec3}
 use Rattle.optics.specs.Facets.{isDelta, sampleNormalPdf}
 use Rattle.optics.specs.Fresnel.{fAt}
-use Rattle.optics.specs.Surface.{Kind, Metal, Glass, Microsurface, etaAt, kAt}
+use Rattle.optics.specs.Surface.{Kind, Metal, Glass, Microsurface, indexAt, kAt}
 use Rattle.optics.specs.Bxdf.{isSmooth, rest}
 
 abbrev pub f4 : Float
@@ -91,4 +91,4 @@ pdfOf Glass a eta k reflection wo wi = dielectricPdf a eta k reflection wo wi
 
 unfoldable pub pdf : Microsurface → Vec3 → Vec3 → Bool → Float → Float
 pdf m wo wi reflection lambda =
-    pdfOf (m .kind) (m .roughness) (etaAt (m .eta) lambda) (kAt (m .eta) (m .k) lambda) reflection wo wi
+    pdfOf (m .kind) (m .roughness) (indexAt m lambda) (kAt (m .eta) (m .k) lambda) reflection wo wi

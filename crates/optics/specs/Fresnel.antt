@@ -9,10 +9,10 @@ use Rattle.numbers.specs.Complex.{complex, mul, mulFloat, floatDiv, floatSub, f
 use Rattle.numbers.specs.Complex as C
 use Rattle.numbers.specs.declared.{complex.Complex.Complex, vec3.Vec3.Vec3}
 use Rattle.optics.specs.Color.{Color, each}
-use Rattle.optics.specs.Surface.{etaAt, kAt}
+use Rattle.optics.specs.Surface.{Kind, Outside, kAt, indexOn}
 
 -- ---- Snell's law, sin θo = η sin θi
--- the index against wo's side: from below, light leaves the medium
+-- the index against wo's side: from below, light leaves the glass
 unfoldable pub indexFrom : Float → Float → Float
 indexFrom cosO eta = cond (lt cosO f0) (f1 ⊘ eta) eta
 
@@ -72,5 +72,5 @@ fresnel cosO eta k = cond (eq k f0) (cond (eq eta f0) f0 (frReal cosO eta)) (frC
 unfoldable pub fAt : Vec3 → Vec3 → Float → Float → Float
 fAt wo wh eta k = fresnel (dot wo wh) eta k
 
-unfoldable pub f : List Float → List Float → Vec3 → Vec3 → Color → Color
-f eta k wo wh lambda = each (λ wl. fAt wo wh (etaAt eta wl) (kAt eta k wl)) lambda
+unfoldable pub f : Kind → List Float → List Float → Outside → Vec3 → Vec3 → Color → Color
+f kind eta k outside wo wh lambda = each (λ wl. fAt wo wh (indexOn kind eta outside wl) (kAt eta k wl)) lambda

@@ -7,5 +7,8 @@ pub mod Sampler
 pub mod Bxdf
 pub mod Density
 pub mod SharedTerms
+pub mod Known
 pub mod Check
+pub mod F64
+pub mod Air
 pub mod Samples

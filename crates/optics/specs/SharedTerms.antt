@@ -1,4 +1,4 @@
--- The forms in which a term that is needed twice is computed once and handed on: the sine of the polar angle, wo · wh, Λ(wo), Snell's law, and the step of the spectra. Definitions only.
+-- The forms in which a term that is needed twice is computed once and handed on: the sine of the polar angle, wo · wh, Λ(wo), Snell's law, the step of the spectra and whether the outer one is constant. Definitions only.
 -- From the term itself each is its formula of Facets.antt, Fresnel.antt, Bxdf.antt or Density.antt, by the laws of proofs/SharedTerms.antt.
 use mathlib.Core.Bool.{Bool, true, false, cond}
 use mathlib.Core.List.{List}
@@ -9,7 +9,8 @@ use Rattle.numbers.specs.Vec3.{negate}
 use Rattle.numbers.specs.declared.{vec2.Vec2.Vec2, vec3.Vec3.Vec3}
 use Rattle.optics.specs.Facets.{lambda, masked, d}
 use Rattle.optics.specs.Color.{Color, each}
-use Rattle.optics.specs.Surface.{etaFrom, kFrom}
+use Rattle.numbers.specs.DenseSpectrum.{entry, sampleOneAt}
+use Rattle.optics.specs.Surface.{etaFrom, kFrom, quotient}
 use Rattle.optics.specs.Fresnel.{fAt, indexFrom, sin2I, isTotal, cosI, unpolarized, frComplex}
 use Rattle.optics.specs.Bxdf.{Outgoing, total, reflect, bent, acrossOnly, Scattered, branch, reflects}
 pub use Rattle.optics.specs.declared.microfacet.Snell.{Snell}
@@ -59,6 +60,17 @@ unfoldable pub dielectricFromSnell : Snell → Float → Float → Float → Vec
 dielectricFromSnell s cosO F u wo wh =
     cond (reflects u F) (branch true (reflect wo wh)) (branch false (refractFrom s cosO wo wh))
 
--- ---- Fresnel's terms at four wavelengths with eta's step at hand
-unfoldable pub fFrom : Float → List Float → List Float → Vec3 → Vec3 → Color → Color
-fFrom step eta k wo wh lambda = each (λ wl. fAt wo wh (etaFrom step eta wl) (kFrom step k wl)) lambda
+-- ---- from the step of the spectra and whether the outer one is constant: the index of glass
+unfoldable pub outerFrom : Bool → Float → List Float → Float → Float
+outerFrom constant step outer lambda = cond constant (entry outer 0) (sampleOneAt step outer lambda)
+
+unfoldable pub quotientFrom : Bool → Float → List Float → List Float → Float → Float
+quotientFrom constant step eta outer lambda = quotient lambda (etaFrom step eta lambda) (outerFrom constant step outer lambda)
+
+-- ---- and Fresnel's terms at four wavelengths, on metal and on glass
+unfoldable pub fMetalFrom : Float → List Float → List Float → Vec3 → Vec3 → Color → Color
+fMetalFrom step eta k wo wh lambda = each (λ wl. fAt wo wh (etaFrom step eta wl) (kFrom step k wl)) lambda
+
+unfoldable pub fGlassFrom : Bool → Float → List Float → List Float → List Float → Vec3 → Vec3 → Color → Color
+fGlassFrom constant step eta k outer wo wh lambda =
+    each (λ wl. fAt wo wh (quotientFrom constant step eta outer wl) (kFrom step k wl)) lambda

@@ -11,7 +11,7 @@ use numbers::refusal::refuse;
 use numbers::vec2::Vec2;
 ghost use mathlib.Core.Path.{_≡_};
 ghost use Rattle.numbers.specs.Refusal.{verdict};
-ghost use Rattle.optics.specs.Surface.{microsurface, isRoughness, roughnessHolds, etaHolds, isEta, allZero, kEntriesHold, kHolds};
+ghost use Rattle.optics.specs.Surface.{microsurface, medium, isRoughness, roughnessHolds, etaHolds, isEta, allZero, kEntriesHold, kHolds, outerHolds};
 ghost use Rattle.optics.specs.Check.{checkSpectra, checkSurface, checkEta, checkLookups, checkRandom, isCirclePair, checkCirclePair};
 
 // The limits of a surface's fields.
@@ -80,19 +80,43 @@ fn k_holds(kind: Kind, eta: &[f64], k: &[f64]) -> bool
     false
 }
 
-// What a surface holds beside its roughness.
-pub fn check_spectra(kind: Kind, eta: &[f64], k: &[f64]) -> Check
-    ensures { λ r. ⌜ verdict r ≡ checkSpectra kind (now (eta .entry)) (now (k .entry)) ⌝ }
+// On glass a table of as many entries as eta has, all within eta's limits; metal has no outer spectrum. Of what is no
+// table no entry is read.
+fn outer_holds(kind: Kind, eta: &[f64], outer: &[f64]) -> bool
+    ensures { λ r. ⌜ r ≡ outerHolds kind (now (eta .entry)) (medium (now (outer .entry))) ⌝ }
 {
-    refuse(Refusal::Eta, eta_holds(eta)).then(refuse(Refusal::K, k_holds(kind, eta, k)))
+    match kind {
+        Kind::Metal => true,
+        Kind::Glass => {
+            if dense_spectrum::is_table(outer) {
+                return dense_spectrum::one_spacing(eta, outer)
+                    && dense_spectrum::all_within(outer, ETA_MIN, ETA_MAX);
+            }
+            false
+        }
+    }
+}
+
+// What a surface holds beside its roughness.
+pub fn check_spectra(kind: Kind, eta: &[f64], k: &[f64], outer: &[f64]) -> Check
+    ensures { λ r. ⌜ verdict r ≡ checkSpectra kind (now (eta .entry)) (now (k .entry)) (medium (now (outer .entry))) ⌝ }
+{
+    refuse(Refusal::Eta, eta_holds(eta))
+        .then(refuse(Refusal::K, k_holds(kind, eta, k)))
+        .then(refuse(Refusal::Outer, outer_holds(kind, eta, outer)))
 }
 
 // The fields of a surface.
-pub fn check_surface(surface: Surface, eta: &[f64], k: &[f64]) -> Check
-    ensures { λ r. ⌜ verdict r ≡ checkSurface (microsurface surface (now (eta .entry)) (now (k .entry))) ⌝ }
+pub fn check_surface(surface: Surface, eta: &[f64], k: &[f64], outer: &[f64]) -> Check
+    ensures { λ r. ⌜ verdict r ≡ checkSurface (microsurface surface (now (eta .entry)) (now (k .entry)) (now (outer .entry))) ⌝ }
 {
     let kind = surface.kind;
-    refuse(Refusal::Roughness, roughness_holds(surface.roughness)).then(check_spectra(kind, eta, k))
+    refuse(Refusal::Roughness, roughness_holds(surface.roughness)).then(check_spectra(
+        kind,
+        eta,
+        k,
+        outer,
+    ))
 }
 
 // The index of a lone bend.

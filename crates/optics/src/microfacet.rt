@@ -6,6 +6,7 @@ use floats::square_root::sqrt;
 use floats::square_root::sqrt_or_zero;
 use numbers::EPSILON;
 use numbers::complex::Complex;
+use numbers::dense_spectrum;
 use numbers::dense_spectrum::DenseSpectrum;
 use numbers::dense_spectrum::GridPoint;
 use numbers::vec2::Vec2;
@@ -13,10 +14,13 @@ use numbers::vec3::Vec3;
 ghost use mathlib.Core.Path.{_≡_};
 ghost use mathlib.Core.Bool.{cond};
 ghost use Rattle.floats.specs.Float.{f0};
+ghost use Rattle.numbers.specs.DenseSpectrum.{entry};
+ghost use Rattle.numbers.specs.GridPoint.{sampleFrom};
 ghost use Rattle.optics.specs.Facets.{isDelta, lambda, chiPass, g1, g, gOverG1, d, sampleNormalPdf, fSchlick, disneyDiffuse};
-ghost use Rattle.optics.specs.SharedTerms.{azimuth, chiPassAt, g1At, gOverG1At, sampleNormalPdfAt, snell, frRealFrom, fresnelFrom, fFrom};
+ghost use Rattle.optics.specs.SharedTerms.{azimuth, chiPassAt, g1At, gOverG1At, sampleNormalPdfAt, snell, frRealFrom, fresnelFrom, quotientFrom, fMetalFrom, fGlassFrom};
 ghost use Rattle.optics.specs.Fresnel.{indexFrom, frReal, complexCosI, rPar, rPer, frComplexFacing, frComplex, fresnel, fAt, f};
-ghost use Rattle.optics.specs.Surface.{kindCode, isKindCode, kindOf, etaFrom, kFrom, etaAt, kAt, constantEta};
+ghost use Rattle.optics.specs.Surface.{kindCode, isKindCode, kindOf, medium, etaFrom, kFrom, etaAt, kAt, quotient, indexOn};
+ghost use Rattle.optics.specs.Known.{knownOnGlass};
 ghost use Rattle.optics.specs.Sampler.{viewed, tangent, onHemisphere, combined, unstretched, sampleNormal};
 
 pub const PI: f64 = 3.141592653589793;
@@ -60,22 +64,36 @@ impl Kind {
     }
 }
 
-// Configurable parameters for a microsurface. Its spectra, the refraction index eta and the
-// absorption coefficient k, are lent beside it.
+// Configurable parameters for a microsurface. Its spectra are lent beside it: the refraction index eta, the
+// absorption coefficient k, and the outer spectrum, which is the refraction index of what lies outside glass.
 pub struct Surface {
     pub kind: Kind,
     // Roughness of the surface (α) along x and y
     pub roughness: Vec2,
 }
 
-// Whether the refraction index is the same at every wavelength.
-pub fn constant_eta(eta: &[f64]) -> bool
-    ensures { λ r. ⌜ r ≡ constantEta (now (eta .entry)) ⌝ }
-{
-    DenseSpectrum::is_constant(eta)
+// What a call finds of a surface's spectra before it reads them at a wavelength: how far apart their entries are,
+// whether the outer spectrum is constant, and whether eta counts as constant, which takes both.
+pub struct Known {
+    pub step: f64,
+    pub outer_constant: bool,
+    pub eta_constant: bool,
 }
 
-// The refraction index at one wavelength.
+impl Known {
+    pub fn on_glass(eta: &[f64], outer: &[f64]) -> Known
+        ensures { λ r. ⌜ r ≡ knownOnGlass (now (eta .entry)) (now (outer .entry)) ⌝ }
+    {
+        let outer_constant = DenseSpectrum::is_constant(outer);
+        Known {
+            step: DenseSpectrum::step(eta),
+            outer_constant,
+            eta_constant: DenseSpectrum::is_constant(eta) & outer_constant,
+        }
+    }
+}
+
+// Eta itself at one wavelength, lumo's reading, which on glass is not yet the index.
 pub fn eta_at(eta: &[f64], wl: f64) -> f64
     ensures { λ r. ⌜ r ≡ etaAt (now (eta .entry)) wl ⌝ }
 {
@@ -89,22 +107,74 @@ pub fn k_at(eta: &[f64], k: &[f64], wl: f64) -> f64
     DenseSpectrum::sample_from(k, GridPoint::new(DenseSpectrum::step(eta), wl))
 }
 
-// The refraction index and the absorption coefficient.
+// The index and the absorption coefficient: `eta` is on glass already divided by what lies outside.
 pub struct OpticalConstants {
     pub eta: f64,
     pub k: f64,
 }
 
 // Both at one wavelength.
-pub fn optical_constants(eta: &[f64], k: &[f64], wl: f64) -> OpticalConstants
-    ensures { λ r. ⌜ (r .eta ≡ etaAt (now (eta .entry)) wl) × (r .k ≡ kAt (now (eta .entry)) (now (k .entry)) wl) ⌝ }
+pub fn optical_constants(
+    kind: Kind,
+    eta: &[f64],
+    k: &[f64],
+    outer: &[f64],
+    wl: f64,
+) -> OpticalConstants
+    ensures { λ r. ⌜ (r .eta ≡ indexOn kind (now (eta .entry)) (medium (now (outer .entry))) wl) × (r .k ≡ kAt (now (eta .entry)) (now (k .entry)) wl) ⌝ }
 {
-    constants_at(DenseSpectrum::step(eta), eta, k, wl)
+    let step = DenseSpectrum::step(eta);
+    match kind {
+        Kind::Metal => metal_constants_at(step, eta, k, wl),
+        Kind::Glass => {
+            glass_constants_at(DenseSpectrum::is_constant(outer), step, eta, k, outer, wl)
+        }
+    }
 }
 
-// The same with `step` at hand, from the wavelength's one place among the grid points; `optical_constants` has
-// eta's.
-pub fn constants_at(step: f64, eta: &[f64], k: &[f64], wl: f64) -> OpticalConstants
+// On glass, with `step` and whether the outer spectrum is constant at hand, from the wavelength's one place among
+// the grid points.
+pub fn glass_constants_at(
+    outer_constant: bool,
+    step: f64,
+    eta: &[f64],
+    k: &[f64],
+    outer: &[f64],
+    wl: f64,
+) -> OpticalConstants
+    ensures { λ r. ⌜ (r .eta ≡ quotientFrom «outer_constant» step (now (eta .entry)) (now (outer .entry)) wl) × (r .k ≡ kFrom step (now (k .entry)) wl) ⌝ }
+{
+    let point = GridPoint::new(step, wl);
+    let inner = DenseSpectrum::sample_from(eta, point);
+    let k = DenseSpectrum::sample_from(k, point);
+    OpticalConstants {
+        eta: quotient(wl, inner, outer_at(outer_constant, outer, point)),
+        k,
+    }
+}
+
+// The index of glass against what lies outside: 0 at a wavelength that was ended, where the bare quotient may be 0 / 0.
+fn quotient(wl: f64, eta: f64, outer: f64) -> f64
+    ensures { λ r. ⌜ r ≡ quotient wl eta outer ⌝ }
+{
+    if wl == 0.0 {
+        return 0.0;
+    }
+    eta / outer
+}
+
+// The outer index: a constant spectrum gives its entry between grid points too.
+fn outer_at(outer_constant: bool, outer: &[f64], point: GridPoint) -> f64
+    ensures { λ r. ⌜ r ≡ cond «outer_constant» (entry (now (outer .entry)) 0) (sampleFrom (now (outer .entry)) point) ⌝ }
+{
+    if outer_constant {
+        return dense_spectrum::entry(outer, 0);
+    }
+    DenseSpectrum::sample_from(outer, point)
+}
+
+// On metal, with `step` at hand.
+fn metal_constants_at(step: f64, eta: &[f64], k: &[f64], wl: f64) -> OpticalConstants
     ensures { λ r. ⌜ (r .eta ≡ etaFrom step (now (eta .entry)) wl) × (r .k ≡ kFrom step (now (k .entry)) wl) ⌝ }
 {
     let point = GridPoint::new(step, wl);
@@ -379,29 +449,89 @@ fn g1_at(lambda_wo: f64, wo_dot_wh: f64, wo: Vec3, wh: Vec3) -> f64
 }
 
 // Fresnel term with the full equations, at four wavelengths
-pub fn f(eta: &[f64], k: &[f64], wo: Vec3, wh: Vec3, lambda: Color) -> Color
-    ensures { λ r. ⌜ r ≡ f (now (eta .entry)) (now (k .entry)) wo wh lambda ⌝ }
+pub fn f(
+    kind: Kind,
+    eta: &[f64],
+    k: &[f64],
+    outer: &[f64],
+    wo: Vec3,
+    wh: Vec3,
+    lambda: Color,
+) -> Color
+    ensures { λ r. ⌜ r ≡ f kind (now (eta .entry)) (now (k .entry)) (medium (now (outer .entry))) wo wh lambda ⌝ }
 {
-    f_from(DenseSpectrum::step(eta), eta, k, wo, wh, lambda)
-}
-
-// The same with `step` at hand; `f` has eta's.
-pub fn f_from(step: f64, eta: &[f64], k: &[f64], wo: Vec3, wh: Vec3, lambda: Color) -> Color
-    ensures { λ r. ⌜ r ≡ fFrom step (now (eta .entry)) (now (k .entry)) wo wh lambda ⌝ }
-{
-    let cos_o = wo.dot(wh);
-    Color {
-        s0: fresnel_at(step, eta, k, cos_o, lambda.s0),
-        s1: fresnel_at(step, eta, k, cos_o, lambda.s1),
-        s2: fresnel_at(step, eta, k, cos_o, lambda.s2),
-        s3: fresnel_at(step, eta, k, cos_o, lambda.s3),
+    let step = DenseSpectrum::step(eta);
+    match kind {
+        Kind::Metal => f_on_metal(step, eta, k, wo, wh, lambda),
+        Kind::Glass => {
+            f_on_glass(
+                DenseSpectrum::is_constant(outer),
+                step,
+                eta,
+                k,
+                outer,
+                wo,
+                wh,
+                lambda,
+            )
+        }
     }
 }
 
-fn fresnel_at(step: f64, eta: &[f64], k: &[f64], cos_o: f64, wl: f64) -> f64
+// On glass, with `step` and whether the outer spectrum is constant at hand.
+fn f_on_glass(
+    outer_constant: bool,
+    step: f64,
+    eta: &[f64],
+    k: &[f64],
+    outer: &[f64],
+    wo: Vec3,
+    wh: Vec3,
+    lambda: Color,
+) -> Color
+    ensures { λ r. ⌜ r ≡ fGlassFrom «outer_constant» step (now (eta .entry)) (now (k .entry)) (now (outer .entry)) wo wh lambda ⌝ }
+{
+    let cos_o = wo.dot(wh);
+    Color {
+        s0: fresnel_on_glass(outer_constant, step, eta, k, outer, cos_o, lambda.s0),
+        s1: fresnel_on_glass(outer_constant, step, eta, k, outer, cos_o, lambda.s1),
+        s2: fresnel_on_glass(outer_constant, step, eta, k, outer, cos_o, lambda.s2),
+        s3: fresnel_on_glass(outer_constant, step, eta, k, outer, cos_o, lambda.s3),
+    }
+}
+
+fn fresnel_on_glass(
+    outer_constant: bool,
+    step: f64,
+    eta: &[f64],
+    k: &[f64],
+    outer: &[f64],
+    cos_o: f64,
+    wl: f64,
+) -> f64
+    ensures { λ r. ⌜ r ≡ fresnel «cos_o» (quotientFrom «outer_constant» step (now (eta .entry)) (now (outer .entry)) wl) (kFrom step (now (k .entry)) wl) ⌝ }
+{
+    let at = glass_constants_at(outer_constant, step, eta, k, outer, wl);
+    fresnel(cos_o, at.eta, at.k)
+}
+
+// On metal, with `step` at hand.
+pub fn f_on_metal(step: f64, eta: &[f64], k: &[f64], wo: Vec3, wh: Vec3, lambda: Color) -> Color
+    ensures { λ r. ⌜ r ≡ fMetalFrom step (now (eta .entry)) (now (k .entry)) wo wh lambda ⌝ }
+{
+    let cos_o = wo.dot(wh);
+    Color {
+        s0: fresnel_on_metal(step, eta, k, cos_o, lambda.s0),
+        s1: fresnel_on_metal(step, eta, k, cos_o, lambda.s1),
+        s2: fresnel_on_metal(step, eta, k, cos_o, lambda.s2),
+        s3: fresnel_on_metal(step, eta, k, cos_o, lambda.s3),
+    }
+}
+
+fn fresnel_on_metal(step: f64, eta: &[f64], k: &[f64], cos_o: f64, wl: f64) -> f64
     ensures { λ r. ⌜ r ≡ fresnel «cos_o» (etaFrom step (now (eta .entry)) wl) (kFrom step (now (k .entry)) wl) ⌝ }
 {
-    let at = constants_at(step, eta, k, wl);
+    let at = metal_constants_at(step, eta, k, wl);
     fresnel(cos_o, at.eta, at.k)
 }
 
@@ -527,7 +657,7 @@ impl Snell {
     }
 }
 
-// From below, light leaves the medium.
+// From below, light leaves the glass.
 fn index_from(cos_o: f64, eta: f64) -> f64
     ensures { λ r. ⌜ r ≡ indexFrom «cos_o» eta ⌝ }
 {

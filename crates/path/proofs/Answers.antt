@@ -38,7 +38,7 @@ one why false = (why, refl)
 known : (p : Path) (m : Microsurface) (b : Bounce) → Known (checkBounce p m b)
 unfolding checkBounce checkRest checkSurface checkSpectra checkDirection checkRandom checkCirclePair number
 known p m b =
-    both _ _ (both _ _ (one W.Roughness _) (both _ _ (one W.Eta _) (one W.K _)))
+    both _ _ (both _ _ (one W.Roughness _) (both _ _ (both _ _ (one W.Eta _) (one W.K _)) (one W.Outer _)))
     (both _ _
     (both _ _
     (both _ _

@@ -6,7 +6,7 @@ use Rattle.numbers.specs.Vec3.{isDirection}
 use Rattle.numbers.specs.Refusal.{accepted}
 use Rattle.numbers.specs.Checked.{checkDirection}
 use Rattle.numbers.proofs.refusal.Checks.{test-passed, first-passed, next-passed}
-use Rattle.optics.specs.Surface.{Microsurface, roughnessHolds, etaHolds, kHolds}
+use Rattle.optics.specs.Surface.{Microsurface, roughnessHolds, etaHolds, kHolds, outerHolds}
 use Rattle.optics.specs.Check.{checkSpectra, checkSurface, checkRandom, checkCirclePair, isRandom, isCirclePair}
 use Rattle.optics.specs.Color.{all4}
 use Rattle.path.specs.declared.records.Path.{Path}
@@ -18,6 +18,7 @@ pub record Accepted (p : Path) (m : Microsurface) (b : Bounce) : Type 0 where
   pub roughness : T (roughnessHolds (m .roughness))
   pub eta : T (etaHolds (m .eta))
   pub k : T (kHolds (m .kind) (m .eta) (m .k))
+  pub outer : T (outerHolds (m .kind) (m .eta) (m .outside))
   pub lambda : T (isPathLambda (p .lambda))
   pub power : T (all4 isPower (p .power))
   pub wo : T (isDirection (b .wo))
@@ -43,8 +44,9 @@ accepted-of p m b h₀ =
     let h₂ = first-passed _ _ h₃ in
     record {
       roughness = test-passed 1 _ (first-passed _ _ s);
-      eta = test-passed 2 _ (first-passed _ _ spectra);
-      k = test-passed 3 _ (next-passed _ _ spectra);
+      eta = test-passed 2 _ (first-passed _ _ (first-passed _ _ spectra));
+      k = test-passed 3 _ (next-passed _ _ (first-passed _ _ spectra));
+      outer = test-passed 13 _ (next-passed _ _ spectra);
       lambda = test-passed 4 _ (first-passed _ _ h₂);
       power = test-passed 10 _ (next-passed _ _ h₂);
       wo = test-passed 5 _ (next-passed _ _ h₃);

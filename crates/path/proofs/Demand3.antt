@@ -14,7 +14,7 @@ use Rattle.numbers.specs.Onb.{basis, toWorld}
 use Rattle.numbers.specs.declared.vec3.Vec3.{Vec3}
 use Rattle.floats.proofs.Rounding.Units.{U-O}
 use Rattle.floats.proofs.Rounding.NonNegative.{Ext, share-of, ext-le}
-use Rattle.optics.specs.Surface.{Microsurface, constantEta}
+use Rattle.optics.specs.Surface.{Outside, Microsurface, constantEta}
 use Rattle.optics.specs.Bxdf.{Scattered, scattered, totally, rest}
 use Rattle.optics.specs.Bxdf as Bxdf
 use Rattle.optics.specs.Density.{pdf}
@@ -23,6 +23,8 @@ use Rattle.optics.specs.declared.color.Color.{Color}
 use Rattle.optics.specs.declared.microfacet.Kind.{Kind}
 use Rattle.optics.specs.declared.microfacet.Kind.the-variants.{Metal, Glass}
 use Rattle.optics.proofs.Densities.{density-not-below}
+use Rattle.optics.proofs.Spectra.{all-fit}
+use Rattle.optics.proofs.Outer.{outer-fit}
 use Rattle.path.specs.declared.records.Path.{Path}
 use Rattle.path.specs.declared.records.Bounce.{Bounce}
 use Rattle.path.specs.declared.records.Density.the-variants as D
@@ -34,7 +36,7 @@ use Rattle.path.specs.Answer.{Outcome, outcome, densityOf, density, shar
 use Rattle.path.specs.Demand3.{F64, ColorF64, Step, StepF64, AllFell, SharesHold, DensityHolds, AnswerHolds, Run, end, bounced, Throughout, Demand3, NeverTotal}
 use Rattle.path.proofs.Checks.{accepted-of}
 use Rattle.path.proofs.Weights.{Weight, whole, weighed-down, weight-from}
-use Rattle.path.proofs.Sampled.{Given, all-fit, leading-fits, leading-in, shares-hold, never-total, shadowing-weight}
+use Rattle.path.proofs.Sampled.{Given, leading-fits, leading-in, shares-hold, never-total, shadowing-weight}
 
 -- ---- a path between bounces: wavelengths of binary64, and powers from 0 to 1
 pub record Weights4 (a : Color) : Type 0 where
@@ -69,10 +71,10 @@ filters a f t =
     each : (x y z w : Bool) → T (x && y && z && w) → T x × T y × T z × T w
     each true true true w t = (tt, tt, tt, t)
 
-left-fits : (kind : Kind) (eta : List Float) (lambda : Color) → ColorF64 lambda → ColorF64 (leftOn kind eta lambda)
+left-fits : (kind : Kind) (eta : List Float) (outside : Outside) (lambda : Color) → ColorF64 lambda → ColorF64 (leftOn kind eta outside lambda)
 unfolding leftOn leftOnGlass terminate leading fits
-left-fits Metal eta lambda f = f
-left-fits Glass eta lambda f = go (constantEta eta)
+left-fits Metal eta outside lambda f = f
+left-fits Glass eta outside lambda f = go (constantEta eta outside)
   where
     go : (constant : Bool) → ColorF64 (cond constant lambda (terminate lambda))
     go true = f
@@ -80,7 +82,7 @@ left-fits Glass eta lambda f = go (constantEta eta)
 
 lambda-fits : (m : Microsurface) (lambda : Color) → ColorF64 lambda → ColorF64 (lambdaOn m lambda)
 unfolding lambdaOn
-lambda-fits m lambda f = left-fits (m .kind) (m .eta) lambda f
+lambda-fits m lambda f = left-fits (m .kind) (m .eta) (m .outside) lambda f
 
 -- ---- a refused bounce: the same powers are no larger
 same-power : (x : Float) → Weight x → T (le f0 x) × T (le x x)
@@ -155,8 +157,11 @@ module _ (p : Path) (m : Microsurface) (b : Bounce) (r : Ready p) (h : Given p m
 
       go : (f : Bool) → isFinite x ≡ f → DensityHolds (cond f (D.Finite x) D.NotFinite)
       go true e =
-          let t = subst T (sym e) tt in
-          (t, density-not-below m (localWo b) wi reflection lambda (all-fit (m .eta) (h .step .eta)) (all-fit (m .k) (h .step .k)) (leading-fits p m b h) (h .ok .eta) (h .ok .k) (leading-in p m b h) t)
+          let t = subst T (sym e) tt in (
+            t,
+            density-not-below m (localWo b) wi reflection lambda (all-fit (m .eta) (h .step .eta)) (all-fit (m .k) (h .step .k)) (outer-fit (m .outside) (h .step .outer))
+                (leading-fits p m b h) (h .ok .eta) (h .ok .k) (h .ok .outer) (leading-in p m b h) t,
+          )
       go false e = tt
 
   branch-kept : (reflection : Bool) (w wi : Vec3)

@@ -5,6 +5,7 @@ pub mod Checks
 pub mod Weights
 pub mod Sampled
 pub mod Demand3
+pub mod Air
 pub mod Answers
 pub mod Samples
 mod ManyBounces

@@ -10,7 +10,9 @@ use Rattle.numbers.specs.declared.onb.Onb.{Onb}
 use Rattle.numbers.specs.declared.vec2.Vec2.{Vec2}
 use Rattle.numbers.specs.declared.vec3.Vec3.{Vec3}
 use Rattle.optics.specs.Color.{color}
-use Rattle.optics.specs.Surface.{Microsurface, etaAt, kAt, constantEta}
+use Rattle.optics.specs.Surface.{Outside, medium, Microsurface, kAt, indexOn, indexAt}
+use Rattle.optics.specs.Known.{knownOnGlass}
+use Rattle.optics.specs.declared.microfacet.Known.{Known}
 use Rattle.optics.specs.Facets.{isDelta}
 use Rattle.optics.specs.Fresnel.{fAt, f}
 use Rattle.optics.specs.Bxdf.{sampled, rest, isSmooth, conductorNormal, conductorFrom, dielectricNormal, dielectricFrom}
@@ -23,7 +25,7 @@ use Rattle.path.specs.declared.records.Path.{Path}
 use Rattle.path.specs.declared.records.Bounce.{Bounce}
 use Rattle.path.specs.declared.records.Shares.the-variants.{None, Of}
 use Rattle.path.specs.Path.{path, each2, weighed, leading, terminate}
-use Rattle.path.specs.Bounce.{advanced, lambdaOn, leftOn, leftOnGlass, scatter, scatterOn, localWo, leadingEta, facet, facetOf, share, weights, weightsFrom, weightsOf, weightFrom, filter, metalFilter, fresnelAt, shadowing, shadowingOn, oneDirection}
+use Rattle.path.specs.Bounce.{advanced, lambdaOn, leftOn, leftOnGlass, scatter, scatterOn, localWo, leadingIndex, facet, facetOf, share, weights, weightsFrom, weightsOf, weightFrom, filter, metalFilter, fresnelAt, shadowing, shadowingOn, oneDirection}
 use Rattle.path.specs.Answer.{lost, reflected, onSurface, worked, shares, sharesOn, branchOf, density, densityOf}
 use Rattle.path.proofs.Direction.{Directionless, no-direction, no-weights, metal-reflects}
 
@@ -31,69 +33,69 @@ abbrev dark : Color
 dark = color f0 f0 f0 f0
 
 -- ---- metal
-abbrev metal : Vec2 → List Float → List Float → Microsurface
-metal a eta k = record { kind = Metal; roughness = a; eta = eta; k = k }
+abbrev metal : Vec2 → List Float → List Float → Outside → Microsurface
+metal a eta k o = record { kind = Metal; roughness = a; eta = eta; k = k; outside = o }
 
-pub metal-backface : (p : Path) (a : Vec2) (eta k : List Float) (b : Bounce) → b .backface ≡ true
-    → onSurface p (metal a eta k) b ≡ lost None (path (p .lambda) (weighed (p .power) dark))
+pub metal-backface : (p : Path) (a : Vec2) (eta k : List Float) (o : Outside) (b : Bounce) → b .backface ≡ true
+    → onSurface p (metal a eta k o) b ≡ lost None (path (p .lambda) (weighed (p .power) dark))
 unfolding onSurface lambdaOn leftOn scatter scatterOn shares sharesOn advanced weights weightsFrom worked weightFrom
-metal-backface p a eta k b e = rw e
+metal-backface p a eta k o b e = rw e
 
-pub metal-lost : (p : Path) (a : Vec2) (eta k : List Float) (b : Bounce) → b .backface ≡ false
+pub metal-lost : (p : Path) (a : Vec2) (eta k : List Float) (o : Outside) (b : Bounce) → b .backface ≡ false
     → (u : Onb) → u ≡ basis (b .normal)
     → (wo : Vec3) → wo ≡ toLocal u (b .wo)
     → (wh : Vec3) → wh ≡ conductorNormal a wo (b .disk) (b .c) (b .s)
     → (s : Sampled) → sampled s ≡ conductorFrom a wo wh → Directionless s
-    → onSurface p (metal a eta k) b ≡ lost None (path (p .lambda) (weighed (p .power) dark))
+    → onSurface p (metal a eta k o) b ≡ lost None (path (p .lambda) (weighed (p .power) dark))
 unfolding onSurface lambdaOn leftOn scatter scatterOn localWo facet facetOf shares sharesOn advanced weights
-metal-lost p a eta k b front u eu wo ewo wh ewh s es none =
+metal-lost p a eta k o b front u eu wo ewo wh ewh s es none =
     rw (front, ← eu, ← ewo, ← ewh, ← es, no-weights s none, no-direction s none)
 
-pub metal-sent : (p : Path) (a : Vec2) (eta k : List Float) (b : Bounce) → b .backface ≡ false
+pub metal-sent : (p : Path) (a : Vec2) (eta k : List Float) (o : Outside) (b : Bounce) → b .backface ≡ false
     → (u : Onb) → u ≡ basis (b .normal)
     → (wo : Vec3) → wo ≡ toLocal u (b .wo)
     → (wh : Vec3) → wh ≡ conductorNormal a wo (b .disk) (b .c) (b .s)
     → (s : Sampled) → sampled s ≡ conductorFrom a wo wh → (wi : Vec3) (r : Bool) → s ≡ Direction wi r
-    → onSurface p (metal a eta k) b
+    → onSurface p (metal a eta k o) b
     ≡ reflected (toWorld u wi) (densityOf (conductorPdf a wo wi)) None (path (p .lambda) (weighed (p .power)
-    (weightsOf (p .lambda) (each2 metalFilter (b .ks) (f eta k wo wh (p .lambda))) (shadowing (isDelta a) a wo wi wh))))
-unfolding onSurface lambdaOn leftOn scatter scatterOn localWo facet facetOf shares sharesOn advanced weights weightsFrom weightsOf worked weightFrom branchOf density pdf pdfOf filter fresnelAt shadowingOn oneDirection sampled f
-metal-sent p a eta k b front u eu wo ewo wh ewh s es wi r es' =
+    (weightsOf (p .lambda) (each2 metalFilter (b .ks) (f Metal eta k o wo wh (p .lambda))) (shadowing (isDelta a) a wo wi wh))))
+unfolding onSurface lambdaOn leftOn scatter scatterOn localWo facet facetOf shares sharesOn advanced weights weightsFrom weightsOf worked weightFrom branchOf density pdf pdfOf filter fresnelAt shadowingOn oneDirection sampled f indexAt
+metal-sent p a eta k o b front u eu wo ewo wh ewh s es wi r es' =
     rw (front, ← eu, ← ewo, ← ewh, ← es, es', metal-reflects a wo wh wi r s es es', ← eu, ← ewo, ← ewh)
 
 -- ---- glass, its index n and its absorption x at the leading wavelength that is left
-abbrev glass : Vec2 → List Float → List Float → Microsurface
-glass a eta k = record { kind = Glass; roughness = a; eta = eta; k = k }
+abbrev glass : Vec2 → List Float → List Float → Outside → Microsurface
+glass a eta k o = record { kind = Glass; roughness = a; eta = eta; k = k; outside = o }
 
-pub left-from : (constant : Bool) (eta : List Float) (lambda : Color) → constant ≡ constantEta eta
-    → (l : Color) → l ≡ cond constant lambda (terminate lambda) → l ≡ leftOnGlass eta lambda
-unfolding leftOnGlass
-left-from constant eta lambda c l e = e ∙ ap (λ (b : Bool). cond b lambda (terminate lambda)) c
+pub left-from : (known : Known) (eta outer : List Float) (lambda : Color) → known ≡ knownOnGlass eta outer
+    → (l : Color) → l ≡ cond (known .«eta_constant») lambda (terminate lambda) → l ≡ leftOnGlass eta (medium outer) lambda
+unfolding leftOnGlass knownOnGlass
+left-from known eta outer lambda c l e = e ∙ ap (λ (x : Known). cond (x .«eta_constant») lambda (terminate lambda)) c
 
-pub glass-lost : (p : Path) (a : Vec2) (eta k : List Float) (b : Bounce)
-    → (l : Color) → l ≡ leftOnGlass eta (p .lambda)
-    → (wl : Float) → wl ≡ leading l → (n : Float) → n ≡ etaAt eta wl → (x : Float) → x ≡ kAt eta k wl
+pub glass-lost : (p : Path) (a : Vec2) (eta k : List Float) (o : Outside) (b : Bounce)
+    → (l : Color) → l ≡ leftOnGlass eta o (p .lambda)
+    → (wl : Float) → wl ≡ leading l → (n : Float) → n ≡ indexOn Glass eta o wl → (x : Float) → x ≡ kAt eta k wl
     → (u : Onb) → u ≡ basis (b .normal)
     → (wo : Vec3) → wo ≡ toLocal u (b .wo)
     → (wh : Vec3) → wh ≡ dielectricNormal a n wo (b .disk) (b .c) (b .s)
     → (F : Float) → F ≡ fAt wo wh n x
     → (s : Sampled) → sampled s ≡ dielectricFrom n F (b .u) wo wh → Directionless s
-    → onSurface p (glass a eta k) b ≡ lost (Of F (rest F)) (path l (weighed (p .power) dark))
-unfolding onSurface lambdaOn leftOn scatter scatterOn localWo leadingEta facet facetOf share fresnelAt shares sharesOn advanced weights
-glass-lost p a eta k b l el wl ewl n en x ex u eu wo ewo wh ewh F eF s es none =
+    → onSurface p (glass a eta k o) b ≡ lost (Of F (rest F)) (path l (weighed (p .power) dark))
+unfolding onSurface lambdaOn leftOn scatter scatterOn localWo leadingIndex facet facetOf share fresnelAt shares sharesOn advanced weights indexAt
+glass-lost p a eta k o b l el wl ewl n en x ex u eu wo ewo wh ewh F eF s es none =
     rw (← el, ← ewl, ← en, ← ex, ← eu, ← ewo, ← ewh, ← eF, ← es, no-weights s none, no-direction s none, ← ewl, ← en, ← ex, ← eu, ← ewo, ← ewh, ← eF)
 
-pub glass-sent : (p : Path) (a : Vec2) (eta k : List Float) (b : Bounce)
-    → (l : Color) → l ≡ leftOnGlass eta (p .lambda)
-    → (wl : Float) → wl ≡ leading l → (n : Float) → n ≡ etaAt eta wl → (x : Float) → x ≡ kAt eta k wl
+pub glass-sent : (p : Path) (a : Vec2) (eta k : List Float) (o : Outside) (b : Bounce)
+    → (l : Color) → l ≡ leftOnGlass eta o (p .lambda)
+    → (wl : Float) → wl ≡ leading l → (n : Float) → n ≡ indexOn Glass eta o wl → (x : Float) → x ≡ kAt eta k wl
     → (u : Onb) → u ≡ basis (b .normal)
     → (wo : Vec3) → wo ≡ toLocal u (b .wo)
     → (wh : Vec3) → wh ≡ dielectricNormal a n wo (b .disk) (b .c) (b .s)
     → (F : Float) → F ≡ fAt wo wh n x
     → (s : Sampled) → sampled s ≡ dielectricFrom n F (b .u) wo wh → (wi : Vec3) (r : Bool) → s ≡ Direction wi r
-    → onSurface p (glass a eta k) b
+    → onSurface p (glass a eta k o) b
     ≡ branchOf r (toWorld u wi) (densityOf (dielectricPdf a n x r wo wi)) (Of F (rest F)) (path l (weighed (p .power)
     (weightsOf l (each2 (cond r) (b .ks) (b .tf)) (shadowing (isSmooth a n) a wo wi wh))))
-unfolding onSurface lambdaOn leftOn scatter scatterOn localWo leadingEta facet facetOf share fresnelAt shares sharesOn advanced weights weightsFrom weightsOf worked weightFrom density pdf pdfOf filter shadowingOn oneDirection sampled
-glass-sent p a eta k b l el wl ewl n en x ex u eu wo ewo wh ewh F eF s es wi r es' =
+unfolding onSurface lambdaOn leftOn scatter scatterOn localWo leadingIndex facet facetOf share fresnelAt shares sharesOn advanced weights weightsFrom weightsOf worked weightFrom density pdf pdfOf filter shadowingOn oneDirection sampled indexAt
+glass-sent p a eta k o b l el wl ewl n en x ex u eu wo ewo wh ewh F eF s es wi r es' =
     rw (← el, ← ewl, ← en, ← ex, ← eu, ← ewo, ← ewh, ← eF, ← es, es', ← ewl, ← en, ← ex, ← eu, ← ewo, ← ewh, ← eF)

@@ -1,10 +1,9 @@
 -- What is sampled at an accepted bounce: local wo and the facet's normal are finite and near unit length (`local-wo`, `facet-unitary`), a bend never answers "total" (`never-total`),
 -- a sampled direction is finite (`direction-span`), so that the shadowing q is a weight (`shadowing-weight`), and on glass the shares lie from 0 to 1 and add up to 1 exactly (`shares-hold`).
 -- Each is a law of optics, for the fields that the checks passed.
-use Prim.Native.Nat.{zero, suc}
 use mathlib.Core.Path.{_≡_, refl, subst}
 use mathlib.Core.Bool.{Bool, true, false, cond}
-use mathlib.Core.List.{List, [], _∷_}
+use mathlib.Core.List.{List}
 use lib.Dec.{T, lit≤}
 use lib.Ieee.{Float, binary64, fits, lt, le, eq}
 use lib.Ieee.Fits.{and-r, cond-fits, div-fits}
@@ -14,8 +13,8 @@ use Rattle.numbers.specs.Vec3.{Z}
 use Rattle.numbers.specs.DenseSpectrum.{isWavelength, isLookupWavelength}
 use Rattle.numbers.specs.declared.vec3.Vec3.{Vec3}
 use Rattle.numbers.proofs.vec3.Direction.{Direction}
-use Rattle.numbers.proofs.dense_spectrum.Interpolation.{AllFit, Index}
-use Rattle.optics.specs.Surface.{Microsurface, constantEta, kAt, kHolds}
+use Rattle.numbers.proofs.dense_spectrum.Interpolation.{Index}
+use Rattle.optics.specs.Surface.{Outside, Microsurface, constantEta, kAt, kHolds}
 use Rattle.optics.specs.Facets.{isDelta, g1, g, gOverG1}
 use Rattle.optics.specs.Sampler.{sampleNormal}
 use Rattle.optics.specs.Bxdf.{Scattered, scattered, lost, totally, conductorNormal, conductorFrom, isSmooth, dielectricNormal}
@@ -29,27 +28,21 @@ use Rattle.optics.proofs.SampledNormal.{Rough, Disk, Local, local-of, local-spa
 use Rattle.optics.proofs.Fresnel.{reach}
 use Rattle.optics.proofs.Glass.{Shares, glass-shares, glass-never-total, glass-direction, metal-outcome, Outcome}
 use Rattle.optics.proofs.Shadowing.{weight-share}
-use Rattle.optics.proofs.Spectra.{eta-index, glass-k-zero}
+use Rattle.optics.proofs.Spectra.{all-fit, glass-k-zero}
+use Rattle.optics.proofs.Outer.{outer-fit, index-in}
 use Rattle.path.specs.declared.records.Path.{Path}
 use Rattle.path.specs.declared.records.Bounce.{Bounce}
 use Rattle.path.specs.Path.{leading, terminate, isPathLambda}
-use Rattle.path.specs.Bounce.{leftOnGlass, leftOn, lambdaOn, localWo, leadingEta, facetOf, facet, fresnelAt, share, scatterOn, scatter, oneDirection, shadowing, shadowingOn}
-use Rattle.path.specs.Demand3.{ColorF64, AllF64, StepF64}
+use Rattle.path.specs.Bounce.{leftOnGlass, leftOn, lambdaOn, localWo, leadingIndex, facetOf, facet, fresnelAt, share, scatterOn, scatter, oneDirection, shadowing, shadowingOn}
+use Rattle.path.specs.Demand3.{ColorF64, StepF64}
 use Rattle.path.proofs.Checks.{Accepted}
 use Rattle.path.proofs.Weights.{Weight, whole}
 
--- ---- entries of binary64, by their index
-pub all-fit : (values : List Float) → AllF64 values → AllFit values
-unfolding AllF64 fits
-all-fit [] h i = tt
-all-fit (x ∷ xs) h zero = h .0
-all-fit (x ∷ xs) h (suc i) = all-fit xs (h .1) i
-
 -- ---- the leading wavelength stays
-leading-left : (kind : Kind) (eta : List Float) (lambda : Color) → leading (leftOn kind eta lambda) ≡ leading lambda
+leading-left : (kind : Kind) (eta : List Float) (outside : Outside) (lambda : Color) → leading (leftOn kind eta outside lambda) ≡ leading lambda
 unfolding leftOn leftOnGlass leading terminate
-leading-left Metal eta lambda = refl
-leading-left Glass eta lambda = go (constantEta eta)
+leading-left Metal eta outside lambda = refl
+leading-left Glass eta outside lambda = go (constantEta eta outside)
   where
     go : (constant : Bool) → leading (cond constant lambda (terminate lambda)) ≡ leading lambda
     go true = refl
@@ -57,7 +50,7 @@ leading-left Glass eta lambda = go (constantEta eta)
 
 leading-stays : (m : Microsurface) (lambda : Color) → leading (lambdaOn m lambda) ≡ leading lambda
 unfolding lambdaOn
-leading-stays m lambda = leading-left (m .kind) (m .eta) lambda
+leading-stays m lambda = leading-left (m .kind) (m .eta) (m .outside) lambda
 
 in-range : (lambda : Color) → T (isPathLambda lambda) → T (isWavelength (leading lambda))
 unfolding isPathLambda leading
@@ -106,16 +99,17 @@ module _ (p : Path) (m : Microsurface) (b : Bounce) (h : Given p m b) where
   facet-on : (kind : Kind) → Unitary (facetOf kind m (lambdaOn m (p .lambda)) b)
   unfolding facetOf conductorNormal dielectricNormal
   facet-on Metal = or-z (isDelta (m .roughness))
-  facet-on Glass = or-z (isSmooth (m .roughness) (leadingEta m (lambdaOn m (p .lambda))))
+  facet-on Glass = or-z (isSmooth (m .roughness) (leadingIndex m (lambdaOn m (p .lambda))))
 
   pub facet-unitary : Unitary (facet m (lambdaOn m (p .lambda)) b)
   unfolding facet
   facet-unitary = facet-on (m .kind)
 
   -- the index at the leading wavelength, and k, which glass has none of
-  index : Index (leadingEta m (lambdaOn m (p .lambda)))
-  unfolding leadingEta
-  index = eta-index (m .eta) (leading (lambdaOn m (p .lambda))) (all-fit (m .eta) (h .step .eta)) (h .ok .eta) leading-fits leading-in
+  index : Index (leadingIndex m (lambdaOn m (p .lambda)))
+  unfolding leadingIndex
+  index =
+      index-in m (leading (lambdaOn m (p .lambda))) (all-fit (m .eta) (h .step .eta)) (outer-fit (m .outside) (h .step .outer)) (h .ok .eta) (h .ok .outer) leading-fits leading-in
 
   no-k : m .kind ≡ Glass → T (eq (kAt (m .eta) (m .k) (leading (lambdaOn m (p .lambda)))) f0)
   no-k g =
@@ -128,10 +122,10 @@ module _ (p : Path) (m : Microsurface) (b : Bounce) (h : Given p m b) where
 
   -- ---- glass: the shares
   pub shares-hold : m .kind ≡ Glass → Shares (share m (lambdaOn m (p .lambda)) b)
-  unfolding share fresnelAt leadingEta
+  unfolding share fresnelAt leadingIndex
   shares-hold g =
       let lambda = lambdaOn m (p .lambda) in
-      glass-shares (localWo b) (facet m lambda b) (leadingEta m lambda) (kAt (m .eta) (m .k) (leading lambda)) local-wo facet-unitary index (no-k g)
+      glass-shares (localWo b) (facet m lambda b) (leadingIndex m lambda) (kAt (m .eta) (m .k) (leading lambda)) local-wo facet-unitary index (no-k g)
 
   -- ---- metal: a backface loses the light
   metal-scattered : Outcome (scatterOn Metal m (lambdaOn m (p .lambda)) b)
@@ -144,11 +138,11 @@ module _ (p : Path) (m : Microsurface) (b : Bounce) (h : Given p m b) where
 
   -- ---- a bend never answers "total"
   never-on : (kind : Kind) → m .kind ≡ kind → scatterOn kind m (lambdaOn m (p .lambda)) b ≡ totally → ⊥
-  unfolding scatterOn share fresnelAt leadingEta
+  unfolding scatterOn share fresnelAt leadingIndex
   never-on Metal e t = subst (λ (s : Scattered). Outcome s) t metal-scattered
   never-on Glass e t =
       let lambda = lambdaOn m (p .lambda) in
-      glass-never-total (leadingEta m lambda) (kAt (m .eta) (m .k) (leading lambda)) (b .u) (localWo b) (facet m lambda b) index (no-k e) below-one local-wo facet-unitary t
+      glass-never-total (leadingIndex m lambda) (kAt (m .eta) (m .k) (leading lambda)) (b .u) (localWo b) (facet m lambda b) index (no-k e) below-one local-wo facet-unitary t
 
   pub never-total : scatter m (lambdaOn m (p .lambda)) b ≡ totally → ⊥
   unfolding scatter
@@ -156,11 +150,11 @@ module _ (p : Path) (m : Microsurface) (b : Bounce) (h : Given p m b) where
 
   -- ---- a sampled direction is finite
   span-on : (kind : Kind) → m .kind ≡ kind → (wi : Vec3) (reflection : Bool) → scatterOn kind m (lambdaOn m (p .lambda)) b ≡ scattered wi reflection → Span reach wi
-  unfolding scatterOn share fresnelAt leadingEta
+  unfolding scatterOn share fresnelAt leadingIndex
   span-on Metal e wi reflection t = subst (λ (s : Scattered). Outcome s) t metal-scattered
   span-on Glass e wi reflection t =
       let lambda = lambdaOn m (p .lambda) in
-      glass-direction (leadingEta m lambda) (kAt (m .eta) (m .k) (leading lambda)) (b .u) (localWo b) (facet m lambda b) wi reflection index (no-k e) below-one local-wo facet-unitary t
+      glass-direction (leadingIndex m lambda) (kAt (m .eta) (m .k) (leading lambda)) (b .u) (localWo b) (facet m lambda b) wi reflection index (no-k e) below-one local-wo facet-unitary t
 
   pub direction-span : (wi : Vec3) (reflection : Bool) → scatter m (lambdaOn m (p .lambda)) b ≡ scattered wi reflection → Span reach wi
   unfolding scatter

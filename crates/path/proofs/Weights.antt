@@ -13,7 +13,7 @@ use Rattle.floats.proofs.Rounding.Units.{is-finite}
 use Rattle.floats.proofs.Rounding.NonNegative.{share-of}
 use Rattle.floats.proofs.Rounding.Shares as Shares
 use Rattle.floats.proofs.Rounding.Monotone.{le-trans-fits}
-use Rattle.optics.specs.Surface.{Microsurface, etaAt, kAt}
+use Rattle.optics.specs.Surface.{Microsurface, indexAt, kAt}
 use Rattle.optics.specs.Bxdf.{Scattered, scattered, lost, totally}
 use Rattle.optics.specs.declared.color.Color.{Color}
 use Rattle.optics.specs.declared.microfacet.Kind.{Kind}
@@ -78,7 +78,7 @@ weight-from totally m lambda b wavelength ks tf q x y = none
 weight-from (scattered wi reflection) m lambda b wavelength ks tf q x y = go (eq wavelength terminated)
   where
     eta : Float
-    eta = etaAt (m .eta) wavelength
+    eta = indexAt m wavelength
 
     k : Float
     k = kAt (m .eta) (m .k) wavelength

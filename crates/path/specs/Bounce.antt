@@ -1,5 +1,5 @@
 -- A bounce on metal or glass: its checks, what is sampled, and the weight of each wavelength (document 01, "Bounce"). Definitions only.
--- `lambda` is the path's wavelengths that are left: on glass whose eta varies, two to four have ended.
+-- `lambda` is the path's wavelengths that are left: on glass whose eta doesn't count as constant, two to four have ended.
 use mathlib.Core.{Bool.Bool, Bool.cond, List.List}
 use lib.Ieee.{Float, isNan, le, eq}
 use Rattle.floats.specs.Float.{_⊗_, f0, f1}
@@ -7,7 +7,7 @@ use Rattle.numbers.specs.Onb.{basis, toLocal}
 use Rattle.numbers.specs.DenseSpectrum.{terminated}
 use Rattle.numbers.specs.declared.{vec2.Vec2.Vec2, vec3.Vec3.Vec3}
 use Rattle.optics.specs.Color.{all4}
-use Rattle.optics.specs.Surface.{Microsurface, etaAt, kAt, constantEta}
+use Rattle.optics.specs.Surface.{Outside, Microsurface, indexAt, kAt, constantEta}
 use Rattle.optics.specs.Facets.{isDelta, gOverG1}
 use Rattle.optics.specs.Fresnel.{fAt}
 use Rattle.optics.specs.Bxdf.{Scattered, scattered, lost, totally, conductorNormal, conductorFrom, isSmooth, dielectricNormal, dielectricFrom}
@@ -35,27 +35,27 @@ checkRest p b =
 unfoldable pub checkBounce : Path → Microsurface → Bounce → Verdict
 checkBounce p m b = checkSurface m then checkRest p b
 
--- ---- wavelengths two to four end on glass whose eta isn't constant
-unfoldable pub leftOnGlass : List Float → Color → Color
-leftOnGlass eta lambda = cond (constantEta eta) lambda (terminate lambda)
+-- ---- wavelengths two to four end on glass whose eta doesn't count as constant
+unfoldable pub leftOnGlass : List Float → Outside → Color → Color
+leftOnGlass eta outside lambda = cond (constantEta eta outside) lambda (terminate lambda)
 
-unfoldable pub leftOn : Kind → List Float → Color → Color
-leftOn Metal eta lambda = lambda
-leftOn Glass eta lambda = leftOnGlass eta lambda
+unfoldable pub leftOn : Kind → List Float → Outside → Color → Color
+leftOn Metal eta outside lambda = lambda
+leftOn Glass eta outside lambda = leftOnGlass eta outside lambda
 
 unfoldable pub lambdaOn : Microsurface → Color → Color
-lambdaOn m lambda = leftOn (m .kind) (m .eta) lambda
+lambdaOn m lambda = leftOn (m .kind) (m .eta) (m .outside) lambda
 
 -- ---- what is sampled (lumo's `BSDF::sample`): wo in the basis of the normal, the facet's normal, F at the leading wavelength
 unfoldable pub localWo : Bounce → Vec3
 localWo b = toLocal (basis (b .normal)) (b .wo)
 
-unfoldable pub leadingEta : Microsurface → Color → Float
-leadingEta m lambda = etaAt (m .eta) (leading lambda)
+unfoldable pub leadingIndex : Microsurface → Color → Float
+leadingIndex m lambda = indexAt m (leading lambda)
 
 unfoldable pub facetOf : Kind → Microsurface → Color → Bounce → Vec3
 facetOf Metal m lambda b = conductorNormal (m .roughness) (localWo b) (b .disk) (b .c) (b .s)
-facetOf Glass m lambda b = dielectricNormal (m .roughness) (leadingEta m lambda) (localWo b) (b .disk) (b .c) (b .s)
+facetOf Glass m lambda b = dielectricNormal (m .roughness) (leadingIndex m lambda) (localWo b) (b .disk) (b .c) (b .s)
 
 unfoldable pub facet : Microsurface → Color → Bounce → Vec3
 facet m lambda b = facetOf (m .kind) m lambda b
@@ -63,7 +63,7 @@ facet m lambda b = facetOf (m .kind) m lambda b
 -- F at a wavelength, for local wo and the facet's normal
 unfoldable pub fresnelAt : Microsurface → Color → Bounce → Float → Float
 fresnelAt m lambda b wavelength =
-    fAt (localWo b) (facet m lambda b) (etaAt (m .eta) wavelength) (kAt (m .eta) (m .k) wavelength)
+    fAt (localWo b) (facet m lambda b) (indexAt m wavelength) (kAt (m .eta) (m .k) wavelength)
 
 unfoldable pub share : Microsurface → Color → Bounce → Float
 share m lambda b = fresnelAt m lambda b (leading lambda)
@@ -72,7 +72,7 @@ share m lambda b = fresnelAt m lambda b (leading lambda)
 unfoldable pub scatterOn : Kind → Microsurface → Color → Bounce → Scattered
 scatterOn Metal m lambda b = cond (b .backface) lost (conductorFrom (m .roughness) (localWo b) (facet m lambda b))
 scatterOn Glass m lambda b =
-    dielectricFrom (leadingEta m lambda) (share m lambda b) (b .u) (localWo b) (facet m lambda b)
+    dielectricFrom (leadingIndex m lambda) (share m lambda b) (b .u) (localWo b) (facet m lambda b)
 
 unfoldable pub scatter : Microsurface → Color → Bounce → Scattered
 scatter m lambda b = scatterOn (m .kind) m lambda b
@@ -82,10 +82,10 @@ scatter m lambda b = scatterOn (m .kind) m lambda b
 unfoldable pub shadowing : Bool → Vec2 → Vec3 → Vec3 → Vec3 → Float
 shadowing one a wo wi wh = cond one f1 (gOverG1 a wo wi wh)
 
--- delta, and glass whose eta at the leading wavelength is 1.0
+-- delta, and glass whose index at the leading wavelength is 1.0
 unfoldable pub oneDirection : Kind → Microsurface → Color → Bool
 oneDirection Metal m lambda = isDelta (m .roughness)
-oneDirection Glass m lambda = isSmooth (m .roughness) (leadingEta m lambda)
+oneDirection Glass m lambda = isSmooth (m .roughness) (leadingIndex m lambda)
 
 unfoldable pub shadowingOn : Microsurface → Color → Bounce → Vec3 → Float
 shadowingOn m lambda b wi =

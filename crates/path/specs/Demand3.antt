@@ -1,10 +1,11 @@
 -- Demand 3 of the contract, as one statement over a list of bounces. Definitions only; it is proved in proofs/Demand3.antt.
 use mathlib.Core.{Path._≡_, List.List, List.[], List._∷_}
 use lib.Dec.{T}
-use lib.Ieee.{Float, binary64, fits, le}
+use lib.Ieee.{Float, le}
 use Rattle.floats.specs.Float.{_⊕_, _⊖_, f0, f1, isFinite}
 use Rattle.numbers.specs.declared.vec3.Vec3.{Vec3}
 use Rattle.optics.specs.Surface.{Microsurface}
+pub use Rattle.optics.specs.F64.{F64, AllF64, OuterF64}
 use Rattle.optics.specs.Bxdf.{totally}
 use Rattle.numbers.specs.Refusal.{accepted}
 use Rattle.optics.specs.declared.{color.Color.Color, microfacet.Kind.Kind, microfacet.Kind.the-variants.Metal, microfacet.Kind.the-variants.Glass}
@@ -14,18 +15,11 @@ use Rattle.path.specs.Path.{Path, path, ones}
 use Rattle.path.specs.Reckoning.{reckon}
 
 -- ---- the numbers that go in are values of binary64: every f64 is
-abbrev pub F64 : Float → Type 0
-F64 x = T (fits binary64 x)
-
 abbrev pub Vec3F64 : Vec3 → Type 0
 Vec3F64 v = F64 (v .x) × F64 (v .y) × F64 (v .z)
 
 abbrev pub ColorF64 : Color → Type 0
 ColorF64 a = F64 (a .s0) × F64 (a .s1) × F64 (a .s2) × F64 (a .s3)
-
-unfoldable pub AllF64 : List Float → Type 0
-AllF64 [] = Unit
-AllF64 (x ∷ xs) = F64 x × AllF64 xs
 
 -- one entry of the list: the surface with its spectra, and the bounce's other arguments but the path
 pub record Step : Type 0 where
@@ -37,6 +31,7 @@ pub record StepF64 (step : Step) : Type 0 where
   pub roughness-y : F64 (step .surface .roughness .y)
   pub eta : AllF64 (step .surface .eta)
   pub k : AllF64 (step .surface .k)
+  pub outer : OuterF64 (step .surface .outside)
   pub wo : Vec3F64 (step .bounce .wo)
   pub normal : Vec3F64 (step .bounce .normal)
   pub u : F64 (step .bounce .u)

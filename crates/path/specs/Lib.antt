@@ -7,4 +7,5 @@ pub mod Plain
 pub mod Many
 pub mod Reckoning
 pub mod Demand3
+pub mod Air
 pub mod Samples

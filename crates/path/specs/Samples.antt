@@ -1,6 +1,6 @@
 -- Document 01's measured samples that are to be proved (marked * there): those of whole bounces, and with those of the crates below ONE conjunction (`AllSamples`).
 -- Definitions only; it is proved in proofs/Samples.antt. The bounces are at wavelengths of the grid, where a constant spectrum reads as its entry.
-use mathlib.Core.{Path._≡_, Bool.false, List.List}
+use mathlib.Core.{Path._≡_, Bool.false, List.List, List.[]}
 use lib.IntN.{pos}
 use lib.ListN.{replicate}
 use lib.Ieee.{Float, fin}
@@ -28,12 +28,12 @@ grid = color (fin false 25 (pos 4)) (fin false 125 (pos 2)) (fin false 75 (pos 3
 abbrev pub constant : Float → List Float
 constant x = replicate denseSamples x
 
--- a surface made from roughness 0, which is raised to 1e-5, so delta: metal of n 1, k 2, and glass of eta 3
+-- a surface made from roughness 0, which is raised to 1e-5, so delta: metal of n 1, k 2, and glass of eta 3 in air
 abbrev pub deltaMetal : Microsurface
-deltaMetal = microsurface (surface Metal f0) (constant f1) (constant f2)
+deltaMetal = microsurface (surface Metal f0) (constant f1) (constant f2) []
 
 abbrev pub deltaGlass : Microsurface
-deltaGlass = microsurface (surface Glass f0) (constant (fin false 3 (pos 0))) (constant f0)
+deltaGlass = microsurface (surface Glass f0) (constant (fin false 3 (pos 0))) (constant f0) (constant f1)
 
 -- wo = normal = Z, filters 1, the number u; disk number 0 and circle pair (1, 0), which a delta surface does not read
 abbrev pub along : Float → Bounce

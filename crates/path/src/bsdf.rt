@@ -21,9 +21,12 @@ use optics::color::Color;
 use optics::microfacet;
 use optics::microfacet::Ggx;
 use optics::microfacet::Kind;
+use optics::microfacet::Known;
 use optics::microfacet::Snell;
 use optics::microfacet::Surface;
 ghost use mathlib.Core.Path.{_≡_};
+ghost use mathlib.Core.List.{List};
+ghost use lib.Ieee.{Float};
 ghost use mathlib.Core.Bool.{cond};
 ghost use Rattle.floats.specs.Float.{f0};
 ghost use Rattle.optics.specs.Color.{color};
@@ -31,70 +34,87 @@ ghost use Rattle.numbers.specs.Refusal.{verdict};
 ghost use Rattle.numbers.specs.Vec3.{dot};
 ghost use Rattle.numbers.specs.DenseSpectrum.{stepOf};
 ghost use Rattle.optics.specs.Check.{checkSurface};
-ghost use Rattle.optics.specs.Surface.{microsurface, constantEta};
+ghost use Rattle.optics.specs.Surface.{microsurface};
+ghost use Rattle.optics.specs.Known.{knownOnGlass};
 ghost use Rattle.optics.specs.Facets.{isDelta, lambda};
 ghost use Rattle.optics.specs.Bxdf.{isSmooth};
 ghost use Rattle.optics.specs.Density.{conductorPdf, dielectricPdf};
 ghost use Rattle.optics.specs.declared.microfacet.Kind.the-variants.{Metal, Glass};
 ghost use Rattle.path.specs.Path.{path, weighed, terminate};
 ghost use Rattle.path.specs.Bounce.{shadowing};
-ghost use Rattle.path.specs.Known.{constantOn};
+ghost use Rattle.path.specs.Known.{knownStep, knownOn};
 ghost use Rattle.path.specs.Answer.{outcome, lost, densityOf, branchOf, onSurface, bounce};
 
-// A bounce of `path` on a surface, whose spectra `eta` and `k` are lent beside it.
-pub fn bounce(path: Path, surface: Surface, eta: &[f64], k: &[f64], b: Bounce) -> Bounced
-    ensures { λ r. ⌜ outcome r ≡ bounce path (microsurface surface (now (eta .entry)) (now (k .entry))) b ⌝ }
-{
-    let check = check_surface(surface, eta, k);
-    let kind = surface.kind;
-    let constant = constant_on(check, kind, eta);
-    let step = DenseSpectrum::step(eta);
-    bounce_with(check, constant, step, path, surface, eta, k, b)
-}
-
-// A bounce on a surface, from what its check gave, whether its eta is constant and the step of its
-// spectra, so that many bounces ask them once.
-pub(crate) fn bounce_with(
-    check: Check,
-    constant: bool,
-    step: f64,
+// A bounce of `path` on a surface, whose spectra `eta`, `k` and `outer` are lent beside it.
+pub fn bounce(
     path: Path,
     surface: Surface,
     eta: &[f64],
     k: &[f64],
+    outer: &[f64],
     b: Bounce,
 ) -> Bounced
-    requires { ⌜ (verdict check ≡ checkSurface (microsurface surface (now eta) (now k))) × (constant ≡ constantOn (verdict check) (surface .kind) (now eta)) × (step ≡ stepOf (now eta)) ⌝ }
-    ensures { λ r. ⌜ outcome r ≡ bounce path (microsurface surface (now (eta .entry)) (now (k .entry))) b ⌝ }
+    ensures { λ r. ⌜ outcome r ≡ bounce path (microsurface surface (now (eta .entry)) (now (k .entry)) (now (outer .entry))) b ⌝ }
+{
+    let check = check_surface(surface, eta, k, outer);
+    let kind = surface.kind;
+    let known = known_on(check, kind, eta, outer);
+    bounce_with(check, known, path, surface, eta, k, outer, b)
+}
+
+// A bounce on a surface, from what its check gave and what is known of its spectra, so that many bounces ask
+// them once.
+pub(crate) fn bounce_with(
+    check: Check,
+    known: Known,
+    path: Path,
+    surface: Surface,
+    eta: &[f64],
+    k: &[f64],
+    outer: &[f64],
+    b: Bounce,
+) -> Bounced
+    requires { ⌜ (verdict check ≡ checkSurface (microsurface surface (now eta) (now k) (now outer))) × (known ≡ knownOn (verdict check) (surface .kind) (now eta) (now outer)) ⌝ }
+    ensures { λ r. ⌜ outcome r ≡ bounce path (microsurface surface (now (eta .entry)) (now (k .entry)) (now (outer .entry))) b ⌝ }
 {
     if let Check::Refused(why) = check.then(check::check_rest(path, b)) {
         return Bounced::Refused { why, path };
     }
     let kind = surface.kind;
     match kind {
-        Kind::Metal => on_metal(step, path, surface, eta, k, b),
-        Kind::Glass => on_glass(constant, step, path, surface, eta, k, b),
+        Kind::Metal => on_metal(known.step, path, surface, eta, k, b),
+        Kind::Glass => on_glass(known, path, surface, eta, k, outer, b),
     }
 }
 
-// Whether eta is constant, from what the surface's check gave: nothing asks it of a surface that is refused, nor
-// of metal.
-pub(crate) fn constant_on(check: Check, kind: Kind, eta: &[f64]) -> bool
-    ensures { λ r. ⌜ r ≡ constantOn (verdict check) kind (now (eta .entry)) ⌝ }
+// What is known of a surface's spectra, from what its check gave: of a surface that is refused, and of metal, nothing
+// asks more than the step.
+pub(crate) fn known_on(check: Check, kind: Kind, eta: &[f64], outer: &[f64]) -> Known
+    ensures { λ r. ⌜ r ≡ knownOn (verdict check) kind (now (eta .entry)) (now (outer .entry)) ⌝ }
 {
     if let Check::Refused(_) = check {
-        return false;
+        return known_step(eta);
     }
     match kind {
-        Kind::Metal => false,
-        Kind::Glass => microfacet::constant_eta(eta),
+        Kind::Metal => known_step(eta),
+        Kind::Glass => Known::on_glass(eta, outer),
     }
 }
 
-// Metal reflects light, at its front alone.
+fn known_step(eta: &[f64]) -> Known
+    ensures { λ r. ⌜ r ≡ knownStep (now (eta .entry)) ⌝ }
+{
+    Known {
+        step: DenseSpectrum::step(eta),
+        outer_constant: false,
+        eta_constant: false,
+    }
+}
+
+// Metal reflects light, at its front alone, whatever lies outside.
 fn on_metal(step: f64, path: Path, surface: Surface, eta: &[f64], k: &[f64], b: Bounce) -> Bounced
     requires { ⌜ (surface .kind ≡ Metal) × (step ≡ stepOf (now eta)) ⌝ }
-    ensures { λ r. ⌜ outcome r ≡ onSurface path (microsurface surface (now (eta .entry)) (now (k .entry))) b ⌝ }
+    ensures { λ r. ⌜ ((outer : List Float) → outcome r ≡ onSurface path (microsurface surface (now (eta .entry)) (now (k .entry)) outer) b) ⌝ }
 {
     if b.backface {
         return lost(path, Shares::None);
@@ -113,7 +133,10 @@ fn on_metal(step: f64, path: Path, surface: Surface, eta: &[f64], k: &[f64], b: 
     };
 
     let seen = seen_on_metal(delta, lambda_wo, mfd, wo, wi, wh);
-    let filter = weight::metal_filter(b.ks, microfacet::f_from(step, eta, k, wo, wh, path.lambda));
+    let filter = weight::metal_filter(
+        b.ks,
+        microfacet::f_on_metal(step, eta, k, wo, wh, path.lambda),
+    );
     Bounced::Reflected {
         wi: uvw.to_world(wi),
         density: density_of(seen.pdf),
@@ -124,24 +147,31 @@ fn on_metal(step: f64, path: Path, surface: Surface, eta: &[f64], k: &[f64], b: 
 
 // Glass reflects light or passes it, by its Fresnel term at the leading wavelength.
 fn on_glass(
-    constant: bool,
-    step: f64,
+    known: Known,
     path: Path,
     surface: Surface,
     eta: &[f64],
     k: &[f64],
+    outer: &[f64],
     b: Bounce,
 ) -> Bounced
-    requires { ⌜ (surface .kind ≡ Glass) × (constant ≡ constantEta (now eta)) × (step ≡ stepOf (now eta)) ⌝ }
-    ensures { λ r. ⌜ outcome r ≡ onSurface path (microsurface surface (now (eta .entry)) (now (k .entry))) b ⌝ }
+    requires { ⌜ (surface .kind ≡ Glass) × (known ≡ knownOnGlass (now eta) (now outer)) ⌝ }
+    ensures { λ r. ⌜ outcome r ≡ onSurface path (microsurface surface (now (eta .entry)) (now (k .entry)) (now (outer .entry))) b ⌝ }
 {
     // wavelengths end before anything reads them
-    let lambda = left_on_glass(constant, path.lambda);
+    let lambda = left_on_glass(known.eta_constant, path.lambda);
     let power = path.power;
     let left = Path { lambda, power };
 
     let leading = wavelength::leading_sample(lambda);
-    let at = microfacet::constants_at(step, eta, k, leading);
+    let at = microfacet::glass_constants_at(
+        known.outer_constant,
+        known.step,
+        eta,
+        k,
+        outer,
+        leading,
+    );
 
     let uvw = Onb::new(b.normal);
     let wo = uvw.to_local(b.wo);
@@ -212,8 +242,8 @@ fn sent(reflection: bool, wi: Vec3, density: Density, shares: Shares, path: Path
     }
 }
 
-// The wavelengths that are left on glass: all but the leading one end where it disperses light, its eta not
-// being constant.
+// The wavelengths that are left on glass: all but the leading one end where it disperses light, eta or what lies
+// outside not being constant.
 fn left_on_glass(constant: bool, lambda: Color) -> Color
     ensures { λ r. ⌜ r ≡ cond «constant» lambda (terminate lambda) ⌝ }
 {

@@ -5,11 +5,11 @@ use crate::plain;
 use crate::records::Bounce;
 use crate::records::Bounced;
 use crate::records::Path;
-use numbers::dense_spectrum::DenseSpectrum;
 use numbers::refusal::Check;
 use numbers::vec3::Vec3;
 use optics::check::check_surface;
 use optics::color::Color;
+use optics::microfacet::Known;
 use optics::microfacet::Surface;
 ghost use mathlib.Core.Path.{_≡_};
 ghost use mathlib.Core.List.{_++_};
@@ -17,10 +17,9 @@ ghost use Prim.Native.Nat.{_+_, _*_, _≤_};
 ghost use lib.ListN.{length, drop};
 ghost use lib.Seq.{paste};
 ghost use Rattle.numbers.specs.Refusal.{verdict};
-ghost use Rattle.numbers.specs.DenseSpectrum.{stepOf};
 ghost use Rattle.optics.specs.Check.{checkSurface};
 ghost use Rattle.optics.specs.Surface.{microsurface};
-ghost use Rattle.path.specs.Known.{constantOn};
+ghost use Rattle.path.specs.Known.{knownOn};
 ghost use Rattle.path.specs.Answer.{outcome};
 ghost use Rattle.path.specs.Many.{isSet, pathIn, bounceIn, numbersOut, bounced, bouncedAt, allBounced, countOf};
 
@@ -120,19 +119,19 @@ fn numbers_out(answer: Bounced) -> [f64; 18]
 // One bounce, from its 27 numbers.
 fn one(
     check: Check,
-    constant: bool,
-    step: f64,
+    known: Known,
     surface: Surface,
     eta: &[f64],
     k: &[f64],
+    outer: &[f64],
     numbers: &[f64],
 ) -> [f64; 18]
-    requires { ⌜ (length (now numbers) ≡ 27) × (verdict check ≡ checkSurface (microsurface surface (now eta) (now k))) × (constant ≡ constantOn (verdict check) (surface .kind) (now eta)) × (step ≡ stepOf (now eta)) ⌝ }
-    ensures { λ r. ⌜ r ≡ bounced (microsurface surface (now (eta .entry)) (now (k .entry))) (now (numbers .entry)) ⌝ }
+    requires { ⌜ (length (now numbers) ≡ 27) × (verdict check ≡ checkSurface (microsurface surface (now eta) (now k) (now outer))) × (known ≡ knownOn (verdict check) (surface .kind) (now eta) (now outer)) ⌝ }
+    ensures { λ r. ⌜ r ≡ bounced (microsurface surface (now (eta .entry)) (now (k .entry)) (now (outer .entry))) (now (numbers .entry)) ⌝ }
 {
     let path = path_in(numbers);
     let b = bounce_in(numbers);
-    numbers_out(bsdf::bounce_with(check, constant, step, path, surface, eta, k, b))
+    numbers_out(bsdf::bounce_with(check, known, path, surface, eta, k, outer, b))
 }
 
 // Stores 18 numbers from `at` on.
@@ -150,42 +149,42 @@ fn put(output: &mut [f64], at: usize, numbers: &[f64; 18])
 // The bounce at `i` of the input, to its place in the output.
 fn put_one(
     check: Check,
-    constant: bool,
-    step: f64,
+    known: Known,
     surface: Surface,
     eta: &[f64],
     k: &[f64],
+    outer: &[f64],
     input: &[f64],
     output: &mut [f64],
     i: usize,
 )
-    requires { ⌜ (27 * i + 27 ≤ length (now input)) × (18 * i + 18 ≤ length (now output)) × (verdict check ≡ checkSurface (microsurface surface (now eta) (now k))) × (constant ≡ constantOn (verdict check) (surface .kind) (now eta)) × (step ≡ stepOf (now eta)) ⌝ }
-    ensures { λ _. ⌜ now (output .exit) ≡ paste (now (output .entry)) (18 * i) (bouncedAt (microsurface surface (now (eta .entry)) (now (k .entry))) (now (input .entry)) i) 18 ⌝ }
+    requires { ⌜ (27 * i + 27 ≤ length (now input)) × (18 * i + 18 ≤ length (now output)) × (verdict check ≡ checkSurface (microsurface surface (now eta) (now k) (now outer))) × (known ≡ knownOn (verdict check) (surface .kind) (now eta) (now outer)) ⌝ }
+    ensures { λ _. ⌜ now (output .exit) ≡ paste (now (output .entry)) (18 * i) (bouncedAt (microsurface surface (now (eta .entry)) (now (k .entry)) (now (outer .entry))) (now (input .entry)) i) 18 ⌝ }
 {
     let from = 27 * i;
     let end = from + 27;
-    let numbers = one(check, constant, step, surface, eta, k, &input[from..end]);
+    let numbers = one(check, known, surface, eta, k, outer, &input[from..end]);
     put(output, 18 * i, &numbers);
 }
 
 // The first `n` bounces.
 fn run(
     check: Check,
-    constant: bool,
-    step: f64,
+    known: Known,
     surface: Surface,
     eta: &[f64],
     k: &[f64],
+    outer: &[f64],
     input: &[f64],
     output: &mut [f64],
     n: usize,
 )
-    requires { ⌜ (27 * n ≤ length (now input)) × (18 * n ≤ length (now output)) × (verdict check ≡ checkSurface (microsurface surface (now eta) (now k))) × (constant ≡ constantOn (verdict check) (surface .kind) (now eta)) × (step ≡ stepOf (now eta)) ⌝ }
-    ensures { λ _. ⌜ now (output .exit) ≡ allBounced (microsurface surface (now (eta .entry)) (now (k .entry))) (now (input .entry)) n ++ drop (18 * n) (now (output .entry)) ⌝ }
+    requires { ⌜ (27 * n ≤ length (now input)) × (18 * n ≤ length (now output)) × (verdict check ≡ checkSurface (microsurface surface (now eta) (now k) (now outer))) × (known ≡ knownOn (verdict check) (surface .kind) (now eta) (now outer)) ⌝ }
+    ensures { λ _. ⌜ now (output .exit) ≡ allBounced (microsurface surface (now (eta .entry)) (now (k .entry)) (now (outer .entry))) (now (input .entry)) n ++ drop (18 * n) (now (output .entry)) ⌝ }
 {
     let mut i = 0;
     while i < n {
-        put_one(check, constant, step, surface, eta, k, input, output, i);
+        put_one(check, known, surface, eta, k, outer, input, output, i);
         i += 1;
     }
 }
@@ -202,14 +201,20 @@ fn count(input: usize, output: usize) -> usize
 
 // Runs as many bounces as both arrays have room for, and returns how many; what lies past their places
 // in the output stays as it was.
-pub fn bounces(surface: Surface, eta: &[f64], k: &[f64], input: &[f64], output: &mut [f64]) -> usize
-    ensures { λ r. ⌜ (r ≡ countOf (length (now (input .entry))) (length (now (output .entry)))) × (now (output .exit) ≡ allBounced (microsurface surface (now (eta .entry)) (now (k .entry))) (now (input .entry)) r ++ drop (18 * r) (now (output .entry))) ⌝ }
+pub fn bounces(
+    surface: Surface,
+    eta: &[f64],
+    k: &[f64],
+    outer: &[f64],
+    input: &[f64],
+    output: &mut [f64],
+) -> usize
+    ensures { λ r. ⌜ (r ≡ countOf (length (now (input .entry))) (length (now (output .entry)))) × (now (output .exit) ≡ allBounced (microsurface surface (now (eta .entry)) (now (k .entry)) (now (outer .entry))) (now (input .entry)) r ++ drop (18 * r) (now (output .entry))) ⌝ }
 {
     let n = count(input.len(), output.len());
-    let check = check_surface(surface, eta, k);
+    let check = check_surface(surface, eta, k, outer);
     let kind = surface.kind;
-    let constant = bsdf::constant_on(check, kind, eta);
-    let step = DenseSpectrum::step(eta);
-    run(check, constant, step, surface, eta, k, input, output, n);
+    let known = bsdf::known_on(check, kind, eta, outer);
+    run(check, known, surface, eta, k, outer, input, output, n);
     n
 }

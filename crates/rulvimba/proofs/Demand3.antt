@@ -133,17 +133,17 @@ kind-kept zero h = refl
 kind-kept (suc zero) h = refl
 kind-kept (suc (suc n)) h = absurd (omega arith)
 
-unknown-refused : (p : Path) (s : SurfaceRecord) (eta k : List Float) (b : Bounce) → 1 < s .kind → bounceResult (bounce p (surfaceWith s eta k) b) .number ≡ 1
+unknown-refused : (p : Path) (s : SurfaceRecord) (eta k outer : List Float) (b : Bounce) → 1 < s .kind → bounceResult (bounce p (surfaceWith s eta k outer) b) .number ≡ 1
 unfolding bounce checkBounce _then_ answered bounceResult
-unknown-refused p s eta k b h = rw (unknown-checked s eta k h)
+unknown-refused p s eta k outer b h = rw (unknown-checked s eta k outer h)
 
-kind-known : (p : Path) (s : SurfaceRecord) (eta k : List Float) (b : Bounce) → bounceResult (bounce p (surfaceWith s eta k) b) .number ≡ 0 → kindCode (surfaceOf s .kind) ≡ s .kind
+kind-known : (p : Path) (s : SurfaceRecord) (eta k outer : List Float) (b : Bounce) → bounceResult (bounce p (surfaceWith s eta k outer) b) .number ≡ 0 → kindCode (surfaceOf s .kind) ≡ s .kind
 unfolding surfaceOf
-kind-known p s eta k b e = go (leb (s .kind) 1) refl
+kind-known p s eta k outer b e = go (leb (s .kind) 1) refl
   where
     go : (known : Bool) → leb (s .kind) 1 ≡ known → kindCode (kindOf (s .kind)) ≡ s .kind
     go true t = kind-kept (s .kind) (leb-true _ _ t)
-    go false t = let z = unknown-refused p s eta k b (leb-false _ _ t) in absurd (omega arith)
+    go false t = let z = unknown-refused p s eta k outer b (leb-false _ _ t) in absurd (omega arith)
 
 -- ---- the run of a list of calls
 answer-of : (xs : List Float) (c : Call) → (a : Bounced) × (outcome a ≡ bounce (pathIn xs) (stepOf c .surface) (c .bounce))
@@ -173,7 +173,7 @@ after-each {xs} q n (called c f r ys h calls) t =
         powers = t .0 .powers;
         product = laid _ ys eight (t .0 .product);
         refused = λ z. h .1 ∙ l .same (subst (λ (x : BounceResult). 0 < x .number) (h .0) z);
-        given = λ z. k .given z ∙ kind-known (pathIn xs) s (c .eta) (c .k) (c .bounce) (subst (λ (x : BounceResult). x .number ≡ 0) (h .0) z);
+        given = λ z. k .given z ∙ kind-known (pathIn xs) s (c .eta) (c .k) (c .outer) (c .bounce) (subst (λ (x : BounceResult). x .number ≡ 0) (h .0) z);
         shares = k .shares;
         density = k .density;
       },

@@ -24,11 +24,12 @@ pub record Call : Type 0 where
   pub surface : SurfaceRecord
   pub eta : List Float
   pub k : List Float
+  pub outer : List Float
   pub bounce : Bounce
 
 -- the same as a step of path's `Demand3`
 abbrev pub stepOf : Call → Step
-stepOf c = record { surface = surfaceWith (c .surface) (c .eta) (c .k); bounce = c .bounce }
+stepOf c = record { surface = surfaceWith (c .surface) (c .eta) (c .k) (c .outer); bounce = c .bounce }
 
 -- ---- what holds after a call c that found xs in memory, returned r and left ys, where q is the reckoning's path after it
 pub record CallHolds (q : Path) (c : Call) (xs : List Float) (r : BounceResult) (ys : List Float) : Type 0 where
@@ -48,7 +49,7 @@ pub record CallHolds (q : Path) (c : Call) (xs : List Float) (r : BounceResult) 
 -- ---- a list of calls on the path in memory: the numbers that go in are values of binary64, and what each call returned and left is what its contract says
 pub data Calls : List Float → Type 0 where
   done : {xs : List Float} → Calls xs
-  called : {xs : List Float} (c : Call) → StepF64 (stepOf c) → (r : BounceResult) (ys : List Float) → BounceCall xs (c .surface) (c .eta) (c .k) (c .bounce) r ys → Calls ys → Calls xs
+  called : {xs : List Float} (c : Call) → StepF64 (stepOf c) → (r : BounceResult) (ys : List Float) → BounceCall xs (c .surface) (c .eta) (c .k) (c .outer) (c .bounce) r ys → Calls ys → Calls xs
 
 -- after every call of it, q being the reckoning's path before the first
 unfoldable pub AfterEach : {xs : List Float} → Path → Calls xs → Type 0

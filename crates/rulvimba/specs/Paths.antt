@@ -38,7 +38,7 @@ pathAfter before (passed wi density shares p) = numbersOf p
 
 -- the contract of rulvimba_bounce, which reads its path from memory,
 -- returns r and leaves `after` where `before` was
-abbrev pub BounceCall : List Float → SurfaceRecord → List Float → List Float → Bounce → BounceResult → List Float → Type 0
-BounceCall before s eta k b r after =
-    let answer = bounce (pathIn before) (surfaceWith s eta k) b in
+abbrev pub BounceCall : List Float → SurfaceRecord → List Float → List Float → List Float → Bounce → BounceResult → List Float → Type 0
+BounceCall before s eta k outer b r after =
+    let answer = bounce (pathIn before) (surfaceWith s eta k outer) b in
     (r ≡ bounceResult answer) × (after ≡ pathAfter before answer)

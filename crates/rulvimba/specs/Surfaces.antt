@@ -20,8 +20,8 @@ surfaceOf s = record {
 }
 
 -- with the spectra that are lent beside it
-abbrev pub surfaceWith : SurfaceRecord → List Float → List Float → Microsurface
-surfaceWith s eta k = microsurface (surfaceOf s) eta k
+abbrev pub surfaceWith : SurfaceRecord → List Float → List Float → List Float → Microsurface
+surfaceWith s eta k outer = microsurface (surfaceOf s) eta k outer
 
 unfoldable pub surfaceRecord : Surface → SurfaceRecord
 surfaceRecord s = record { kind = kindCode (s .kind); roughness = s .roughness }

@@ -17,10 +17,11 @@ pub extern "C" fn rulvimba_bounces(
     surface: SurfaceRecord,
     eta: &[f64],
     k: &[f64],
+    outer: &[f64],
     input: &[f64],
     output: &mut [f64],
 ) -> usize
-    ensures { λ r. ⌜ (r ≡ countOf (length (now (input .entry))) (length (now (output .entry)))) × (now (output .exit) ≡ allBounced (surfaceWith surface (now (eta .entry)) (now (k .entry))) (now (input .entry)) r ++ drop (18 * r) (now (output .entry))) ⌝ }
+    ensures { λ r. ⌜ (r ≡ countOf (length (now (input .entry))) (length (now (output .entry)))) × (now (output .exit) ≡ allBounced (surfaceWith surface (now (eta .entry)) (now (k .entry)) (now (outer .entry))) (now (input .entry)) r ++ drop (18 * r) (now (output .entry))) ⌝ }
 {
-    many::bounces(surfaces::of_record(surface), eta, k, input, output)
+    many::bounces(surfaces::of_record(surface), eta, k, outer, input, output)
 }

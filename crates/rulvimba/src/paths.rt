@@ -91,11 +91,12 @@ pub extern "C" fn rulvimba_bounce(
     surface: SurfaceRecord,
     eta: &[f64],
     k: &[f64],
+    outer: &[f64],
     b: Bounce,
 ) -> BounceResult
-    ensures { λ r. ⌜ BounceCall (now (path .entry)) surface (now (eta .entry)) (now (k .entry)) b r (now (path .exit)) ⌝ }
+    ensures { λ r. ⌜ BounceCall (now (path .entry)) surface (now (eta .entry)) (now (k .entry)) (now (outer .entry)) b r (now (path .exit)) ⌝ }
 {
-    let answer = bsdf::bounce(load(path), surfaces::of_record(surface), eta, k, b);
+    let answer = bsdf::bounce(load(path), surfaces::of_record(surface), eta, k, outer, b);
     keep(path, answer);
     plain::of_bounced(answer)
 }

@@ -9,7 +9,7 @@ use optics::microfacet::Kind;
 use optics::microfacet::METAL_CODE;
 use optics::microfacet::Surface;
 ghost use mathlib.Core.Path.{_≡_};
-ghost use Rattle.optics.specs.Surface.{kindOf};
+ghost use Rattle.optics.specs.Surface.{kindOf, medium};
 ghost use Rattle.optics.specs.Check.{checkSurface};
 ghost use Rattle.counter.specs.Counter as Counter;
 ghost use Rattle.counter.specs.Counter.{surfaceAnswer};
@@ -86,16 +86,28 @@ pub extern "C" fn rulvimba_make_surface(
     roughness: f64,
     eta: &[f64],
     k: &[f64],
+    outer: &[f64],
 ) -> SurfaceResult
-    ensures { λ r. ⌜ r ≡ surfaceResult (Counter.makeSurface (kindOf kind) (roughnessOf kind roughness) (now (eta .entry)) (now (k .entry))) ⌝ }
+    ensures { λ r. ⌜ r ≡ surfaceResult (Counter.makeSurface (kindOf kind) (roughnessOf kind roughness) (now (eta .entry)) (now (k .entry)) (medium (now (outer .entry)))) ⌝ }
 {
-    of_made(counter::make_surface(Kind::of_code(kind), roughness_of(kind, roughness), eta, k))
+    of_made(counter::make_surface(
+        Kind::of_code(kind),
+        roughness_of(kind, roughness),
+        eta,
+        k,
+        outer,
+    ))
 }
 
 // The number that the fields of a surface are refused with, or 0.
 #[no_mangle]
-pub extern "C" fn rulvimba_check_surface(surface: SurfaceRecord, eta: &[f64], k: &[f64]) -> u64
-    ensures { λ r. ⌜ r ≡ checkNumber (checkSurface (surfaceWith surface (now (eta .entry)) (now (k .entry)))) ⌝ }
+pub extern "C" fn rulvimba_check_surface(
+    surface: SurfaceRecord,
+    eta: &[f64],
+    k: &[f64],
+    outer: &[f64],
+) -> u64
+    ensures { λ r. ⌜ r ≡ checkNumber (checkSurface (surfaceWith surface (now (eta .entry)) (now (k .entry)) (now (outer .entry)))) ⌝ }
 {
-    records::of_check(check::check_surface(of_record(surface), eta, k))
+    records::of_check(check::check_surface(of_record(surface), eta, k, outer))
 }

@@ -27,11 +27,12 @@ pub extern "C" fn rulvimba_lambda(
     surface: SurfaceRecord,
     eta: &[f64],
     k: &[f64],
+    outer: &[f64],
     w: Vec3,
 ) -> FloatResult
-    ensures { λ r. ⌜ r ≡ floatResult (Counter.lambda (surfaceWith surface (now (eta .entry)) (now (k .entry))) w) ⌝ }
+    ensures { λ r. ⌜ r ≡ floatResult (Counter.lambda (surfaceWith surface (now (eta .entry)) (now (k .entry)) (now (outer .entry))) w) ⌝ }
 {
-    records::of_float(counter::lambda(surfaces::of_record(surface), eta, k, w))
+    records::of_float(counter::lambda(surfaces::of_record(surface), eta, k, outer, w))
 }
 
 #[no_mangle]
@@ -39,12 +40,13 @@ pub extern "C" fn rulvimba_g1(
     surface: SurfaceRecord,
     eta: &[f64],
     k: &[f64],
+    outer: &[f64],
     wo: Vec3,
     wh: Vec3,
 ) -> FloatResult
-    ensures { λ r. ⌜ r ≡ floatResult (Counter.g1 (surfaceWith surface (now (eta .entry)) (now (k .entry))) wo wh) ⌝ }
+    ensures { λ r. ⌜ r ≡ floatResult (Counter.g1 (surfaceWith surface (now (eta .entry)) (now (k .entry)) (now (outer .entry))) wo wh) ⌝ }
 {
-    records::of_float(counter::g1(surfaces::of_record(surface), eta, k, wo, wh))
+    records::of_float(counter::g1(surfaces::of_record(surface), eta, k, outer, wo, wh))
 }
 
 #[no_mangle]
@@ -52,13 +54,14 @@ pub extern "C" fn rulvimba_g(
     surface: SurfaceRecord,
     eta: &[f64],
     k: &[f64],
+    outer: &[f64],
     wo: Vec3,
     wi: Vec3,
     wh: Vec3,
 ) -> FloatResult
-    ensures { λ r. ⌜ r ≡ floatResult (Counter.g (surfaceWith surface (now (eta .entry)) (now (k .entry))) wo wi wh) ⌝ }
+    ensures { λ r. ⌜ r ≡ floatResult (Counter.g (surfaceWith surface (now (eta .entry)) (now (k .entry)) (now (outer .entry))) wo wi wh) ⌝ }
 {
-    records::of_float(counter::g(surfaces::of_record(surface), eta, k, wo, wi, wh))
+    records::of_float(counter::g(surfaces::of_record(surface), eta, k, outer, wo, wi, wh))
 }
 
 #[no_mangle]
@@ -66,11 +69,12 @@ pub extern "C" fn rulvimba_d(
     surface: SurfaceRecord,
     eta: &[f64],
     k: &[f64],
+    outer: &[f64],
     wh: Vec3,
 ) -> FloatResult
-    ensures { λ r. ⌜ r ≡ floatResult (Counter.d (surfaceWith surface (now (eta .entry)) (now (k .entry))) wh) ⌝ }
+    ensures { λ r. ⌜ r ≡ floatResult (Counter.d (surfaceWith surface (now (eta .entry)) (now (k .entry)) (now (outer .entry))) wh) ⌝ }
 {
-    records::of_float(counter::d(surfaces::of_record(surface), eta, k, wh))
+    records::of_float(counter::d(surfaces::of_record(surface), eta, k, outer, wh))
 }
 
 // ---- Fresnel, at one wavelength and at four
@@ -79,13 +83,14 @@ pub extern "C" fn rulvimba_fresnel_at(
     surface: SurfaceRecord,
     eta: &[f64],
     k: &[f64],
+    outer: &[f64],
     wo: Vec3,
     wh: Vec3,
     lambda: f64,
 ) -> FloatResult
-    ensures { λ r. ⌜ r ≡ floatResult (Counter.fAt (surfaceWith surface (now (eta .entry)) (now (k .entry))) wo wh lambda) ⌝ }
+    ensures { λ r. ⌜ r ≡ floatResult (Counter.fAt (surfaceWith surface (now (eta .entry)) (now (k .entry)) (now (outer .entry))) wo wh lambda) ⌝ }
 {
-    records::of_float(counter::f_at(surfaces::of_record(surface), eta, k, wo, wh, lambda))
+    records::of_float(counter::f_at(surfaces::of_record(surface), eta, k, outer, wo, wh, lambda))
 }
 
 #[no_mangle]
@@ -93,13 +98,14 @@ pub extern "C" fn rulvimba_fresnel(
     surface: SurfaceRecord,
     eta: &[f64],
     k: &[f64],
+    outer: &[f64],
     wo: Vec3,
     wh: Vec3,
     lambda: Color,
 ) -> ColorResult
-    ensures { λ r. ⌜ r ≡ colorResult (Counter.f (surfaceWith surface (now (eta .entry)) (now (k .entry))) wo wh lambda) ⌝ }
+    ensures { λ r. ⌜ r ≡ colorResult (Counter.f (surfaceWith surface (now (eta .entry)) (now (k .entry)) (now (outer .entry))) wo wh lambda) ⌝ }
 {
-    records::of_color(counter::f(surfaces::of_record(surface), eta, k, wo, wh, lambda))
+    records::of_color(counter::f(surfaces::of_record(surface), eta, k, outer, wo, wh, lambda))
 }
 
 // ---- sampler, mirror, bend
@@ -108,14 +114,24 @@ pub extern "C" fn rulvimba_sample_normal(
     surface: SurfaceRecord,
     eta: &[f64],
     k: &[f64],
+    outer: &[f64],
     wo: Vec3,
     disk: f64,
     c: f64,
     s: f64,
 ) -> Vec3Result
-    ensures { λ r. ⌜ r ≡ vec3Result (Counter.sampleNormal (surfaceWith surface (now (eta .entry)) (now (k .entry))) wo disk c s) ⌝ }
+    ensures { λ r. ⌜ r ≡ vec3Result (Counter.sampleNormal (surfaceWith surface (now (eta .entry)) (now (k .entry)) (now (outer .entry))) wo disk c s) ⌝ }
 {
-    records::of_vec3(counter::sample_normal(surfaces::of_record(surface), eta, k, wo, disk, c, s))
+    records::of_vec3(counter::sample_normal(
+        surfaces::of_record(surface),
+        eta,
+        k,
+        outer,
+        wo,
+        disk,
+        c,
+        s,
+    ))
 }
 
 #[no_mangle]
@@ -138,17 +154,19 @@ pub extern "C" fn rulvimba_density(
     surface: SurfaceRecord,
     eta: &[f64],
     k: &[f64],
+    outer: &[f64],
     wo: Vec3,
     wi: Vec3,
     reflection: bool,
     lambda: f64,
 ) -> FloatResult
-    ensures { λ r. ⌜ r ≡ floatResult (Counter.pdf (surfaceWith surface (now (eta .entry)) (now (k .entry))) wo wi reflection lambda) ⌝ }
+    ensures { λ r. ⌜ r ≡ floatResult (Counter.pdf (surfaceWith surface (now (eta .entry)) (now (k .entry)) (now (outer .entry))) wo wi reflection lambda) ⌝ }
 {
     records::of_float(counter::pdf(
         surfaces::of_record(surface),
         eta,
         k,
+        outer,
         wo,
         wi,
         reflection,

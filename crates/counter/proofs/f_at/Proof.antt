@@ -2,12 +2,13 @@
 use borrow.Author.Needs.{needs}
 use Rattle.numbers.specs.Refusal.{verdict, _▷_}
 use Rattle.numbers.specs.Checked.{floatAnswer}
+use Rattle.optics.specs.Surface.{indexAt}
 use Rattle.counter.specs.Counter.{fAt}
 use Rattle.counter.proofs.f_at.Statement.{statement}
 use Rattle.counter.proofs.f_at.Tie as tie
 
 pub f-at-spec : {M : Type 1} → statement M
-unfolding fAt floatAnswer verdict _▷_
+unfolding fAt indexAt floatAnswer verdict _▷_
 f-at-spec = tie.close (tie.spec (λ c κs. search needs) (λ c κs. search needs) (λ c κs. search needs) (λ c κs. search needs) (λ c κs. search needs)
     (λ c κs. search needs) (λ c κs. search needs) (λ c. search needs)
     (λ c. let p = c .before .before .before in let q = p .before .before .before in

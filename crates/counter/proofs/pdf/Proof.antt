@@ -2,13 +2,14 @@
 use borrow.Author.Needs.{needs}
 use Rattle.numbers.specs.Refusal.{verdict, _▷_}
 use Rattle.numbers.specs.Checked.{floatAnswer}
+use Rattle.optics.specs.Surface.{indexAt}
 use Rattle.counter.specs.Counter.{pdf}
 use Rattle.optics.specs.Density as Density
 use Rattle.counter.proofs.pdf.Statement.{statement}
 use Rattle.counter.proofs.pdf.Tie as tie
 
 pub pdf-spec : {M : Type 1} → statement M
-unfolding pdf Density.pdf floatAnswer verdict _▷_
+unfolding pdf Density.pdf indexAt floatAnswer verdict _▷_
 pdf-spec = tie.close (tie.spec (λ c κs. search needs) (λ c κs. search needs) (λ c κs. search needs) (λ c κs. search needs) (λ c κs. search needs)
     (λ c κs. search needs) (λ c κs. search needs) (λ c. search needs)
     (λ c. let p = c .before .before .before in let q = p .before .before .before in

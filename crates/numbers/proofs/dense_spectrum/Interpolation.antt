@@ -6,7 +6,7 @@ use mathlib.Core.Path.{_≡_, refl, sym, ap, _∙_, subst}
 use mathlib.Core.Logic.{inl, inr}
 use mathlib.Core.Bool.{Bool·beq, Bool, true, false, cond, _||_}
 use mathlib.Core.List.{List}
-use Prim.Native.Nat.{ℕ, zero, suc, _+_, _-_, _*_, _/_, _^_, _≤_, _<_}
+use Prim.Native.Nat.{ℕ, zero, suc, _+_, _-_, _*_, _/_, _^_, _≤_, _<_, zero-le}
 use native.Mathlib.Nat.{le-refl, le-trans, le-of-eq, le-of-lt, lt-of-le-of-lt, lt-of-lt-of-le, lt-irrefl, not-le-of-lt, mul-le-mul-right, mul-le-mul-left, le-of-mul-le-mul-right, lt-of-mul-lt-mul-right, mul-lt-mul-of-pos-right, mul-pos, mul-comm, mul-assoc, div-lt-iff-lt-mul, one-mul, zero-mul, mul-zero, le-antisymm}
 use native.Mathlib.Omega.{arith}
 use mir.Facts.{or-yes}
@@ -747,3 +747,11 @@ unfolding sampleOne
 sample-index w values f h table a l =
     let t = table-of values table in
     sample-index-at (stepOf values) w (t .s) (t .n) values (t .grid) (t .step) f h (t .entries) a l
+
+-- the first entry itself is such a value
+pub first-index : (values : List Float) → T (isTable values) → AllFit values → T (allWithin (decimal 1 100) (decimal 100 1) values) → Read (entry values 0)
+first-index values table a l =
+    let t = table-of values table in
+    let lo = decimal 1 100 in
+    let hi = decimal 100 1 in
+    read-nearly (entry values 0) (entry-nearly lo hi (entry values 0) (entry-range lo hi values 0 (t .n) eta-limits a l (t .entries) zero-le))

@@ -18,3 +18,4 @@ number-positive W.NotFinite = omega arith
 number-positive W.Power = omega arith
 number-positive W.Full = omega arith
 number-positive W.Id = omega arith
+number-positive W.Outer = omega arith

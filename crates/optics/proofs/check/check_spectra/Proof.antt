@@ -8,6 +8,6 @@ use Rattle.optics.proofs.check.check_spectra.Tie as tie
 pub check-spectra-spec : {M : Type 1} → statement M
 unfolding checkSpectra number
 check-spectra-spec = tie.close (tie.spec (λ c κs. search needs) (λ c κs. search needs) (λ c κs. search needs) (λ c κs. search needs)
-    (λ c κs. search needs)
-    (λ c. let p = c .before .before in
-    rw (← p .before .before .eta-holds .ensures, ← p .before .refuse .ensures, ← p .k-holds .ensures, ← c .before .refuse2 .ensures, ← c .then .ensures)))
+    (λ c κs. search needs) (λ c κs. search needs) (λ c κs. search needs) (λ c κs. search needs)
+    (λ c. let p = c .before .before .before in let q = p .before .before in
+    rw (← q .before .before .eta-holds .ensures, ← q .before .refuse .ensures, ← q .k-holds .ensures, ← p .before .refuse2 .ensures, ← p .then .ensures, ← c .before .before .outer-holds .ensures, ← c .before .refuse3 .ensures, ← c .then2 .ensures)))

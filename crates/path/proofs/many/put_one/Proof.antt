@@ -21,9 +21,9 @@ span n = omega arith
 returns : tie.Need-returns
 unfolding bouncedAt
 returns c =
-    let at-start = c .before .before .before .before .before .before .before .before .before .before .before in
+    let at-start = c .before .before .before .before .before .before .before .before .before .before .before .before in
     let args = at-start .args in
-    let m = microsurface (args .surface) (now (args .eta)) (now (args .k)) in
+    let m = microsurface (args .surface) (now (args .eta)) (now (args .k)) (now (args .outer)) in
     c .before .before .put .ensures
     ∙ ap (λ (l : List Float). paste (now (args .output)) (18 * args .i) l 18)
     (c .before .before .before .before .before .one .ensures

@@ -15,13 +15,13 @@ use Rattle.path.proofs.many.run.Statement.{statement}
 use Rattle.path.proofs.many.run.Tie as tie
 
 abbrev Inv-loop : tie.InvT-loop
-Inv-loop check constant step surface eta k input output₀ n i₀ output i =
+Inv-loop check known surface eta k outer input output₀ n i₀ output i =
     (i ≤ n)
-    × (output ≡ allBounced (microsurface surface eta k) input i ++ drop (18 * i) output₀)
+    × (output ≡ allBounced (microsurface surface eta k outer) input i ++ drop (18 * i) output₀)
     × (length output ≡ length output₀)
 
 abbrev μ-loop : tie.MeasureT-loop
-μ-loop check constant step surface eta k input output₀ n i₀ output i = n - i
+μ-loop check known surface eta k outer input output₀ n i₀ output i = n - i
 
 -- a turn: one more bounce is stored, and the output is as long as it was
 turn : (m : Microsurface) (input output₀ output next : List Float) (i : ℕ)
@@ -41,8 +41,8 @@ as-long m input output next i room f =
 loop-again : tie.Need-loop-again Inv-loop μ-loop
 loop-again c =
     let at-loop = c .before .before .before .before .before in
-    let args = at-loop .before .before .before .before .before .args in
-    let m = microsurface (args .surface) (now (args .eta)) (now (args .k)) in
+    let args = at-loop .before .before .before .before .before .before .args in
+    let m = microsurface (args .surface) (now (args .eta)) (now (args .k)) (now (args .outer)) in
     let inv = at-loop .loop .inv in
     let stored = c .before .before .put-one .ensures in (
       omega arith,
@@ -53,8 +53,8 @@ loop-again c =
 returns : tie.Need-returns Inv-loop μ-loop
 returns c =
     let at-loop = c .before in
-    let args = at-loop .before .before .before .before .before .args in
-    let m = microsurface (args .surface) (now (args .eta)) (now (args .k)) in
+    let args = at-loop .before .before .before .before .before .before .args in
+    let m = microsurface (args .surface) (now (args .eta)) (now (args .k)) (now (args .outer)) in
     at-loop .loop .inv .1
     ∙ ap (λ (n : ℕ). allBounced m (now (args .input)) n ++ drop (18 * n) (now (args .output)))
     (le-antisymm (at-loop .loop .inv .0) (c .loop-test .left))
@@ -62,5 +62,5 @@ returns c =
 pub run-spec : {M : Type 1} → statement M
 unfolding allBounced
 run-spec = tie.close (tie.spec Inv-loop μ-loop (λ c. (omega arith, refl, refl))
-    (λ c κs. let p = c .before .before .before .before .before .before .before in (omega arith, omega arith, p .pre .2, p .pre .3, p .pre .4))
+    (λ c κs. let p = c .before .before .before .before .before .before .before .before in (omega arith, omega arith, p .pre .2, p .pre .3))
     (λ c. omega arith) (λ c. omega arith) loop-again (λ c. c .before .loop .inv .2) returns)

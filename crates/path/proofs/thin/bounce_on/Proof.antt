@@ -22,7 +22,7 @@ use ghost.Atoms.{Atoms, sem}
 use contract.Lifetimes.{Lfts, Shares}
 use contract.Monad.{Fun, fact}
 use contract.Running.{givenOf, tables, tablesOf}
-use types.Kit.{Given, Item, ‵, raw, _⊛_, ⋆, some, later, _$_, _∵_, !, qed, by, move, keep, drop, use1, use3, split, split3, join, pick, fsplit, fsplit3, fjoin, fjoin3, feqI, suffices, frame, await, done}
+use types.Kit.{Given, Item, ‵, raw, _⊛_, ⋆, some, later, _$_, _∵_, !, qed, by, move, keep, drop, cut, use1, split, join, pick, fsplit, fsplit3, fjoin, fjoin3, feqI, suffices, frame, await, done}
 use types.Run.{look, look-raw, init, store-raw, forget, stop, hop, from, load, of-opd, and-then, no-more, assigns, land, returns, enter, alloc1, alloc0, params1, pass1, pass0, free1, free0}
 use types.SemTy.{Body}
 use sound.WpLaws.{FmC, fmOf, WpFn-mono}
@@ -73,10 +73,10 @@ use Rattle.path.proofs.thin.bounce_on.Statement as stated
 use Rattle.path.proofs.thin.bounce_on.Code as code
 
 -- what the path's reference points at, and what a spectrum holds
-abbrev behind : Slot 3
+abbrev behind : Slot 4
 behind = plain (λ _. P.the-row)
 
-abbrev entries : Slot 3
+abbrev entries : Slot 4
 entries = plain (λ _. f64)
 
 -- every parameter is still owned at exit
@@ -86,8 +86,9 @@ stayed =
     let surface-stays = stay-none (λ _. S.the-row) yes in
     let eta-stays = stay-none-slice (1 ∷ []) tt entries yes in
     let k-stays = stay-none-slice (2 ∷ []) tt entries yes in
+    let outer-stays = stay-none-slice (3 ∷ []) tt entries yes in
     let bounce-stays = stay-none (λ _. B.the-row) yes in
-    (path-stays, (surface-stays, (eta-stays, (k-stays, (bounce-stays, tt)))))
+    (path-stays, (surface-stays, (eta-stays, (k-stays, (outer-stays, (bounce-stays, tt))))))
 
 -- the machine values of a path, a surface, a spectrum and a bounce
 abbrev path-val : Path → Val
@@ -131,7 +132,7 @@ module _ {M : Type 1} (𝓤 : URA M) (H : Heap 𝓤) (A : Atoms 𝓤) (W : Given
   answer-made = EL.makes R.the-type R′.the-plain 𝓤 H A
 
 module _ {M : Type 1} (𝓤 : URA M) (H : Heap 𝓤) (A : Atoms 𝓤) (W : Given 𝓤 H A) (at-mem : Memory → SProp 𝓤) (run : Routine → Fun 𝓤)
-    (κs : Lfts 3) (qs : Shares 3) (a : Args on.signature κs) where
+    (κs : Lfts 4) (qs : Shares 4) (a : Args on.signature κs) where
   -- the path behind the reference, and the other parameters
   abbrev p : Path
   p = a .0 .now
@@ -145,19 +146,22 @@ module _ {M : Type 1} (𝓤 : URA M) (H : Heap 𝓤) (A : Atoms 𝓤) (W : Given
   abbrev k : RefT (List Float)
   k = a .1 .1 .1 .0
 
+  abbrev outer : RefT (List Float)
+  outer = a .1 .1 .1 .1 .0
+
   abbrev d : Bounce
-  d = a .1 .1 .1 .1 .0
+  d = a .1 .1 .1 .1 .1 .0
 
   -- the machine values that are passed: v, and the rest
   abbrev with-rest : Val → Vals on.signature κs
-  with-rest v = (v ∷ [], (surface-val s ∷ [], (spectrum-val eta ∷ [], (spectrum-val k ∷ [], (bounce-val d ∷ [], tt)))))
+  with-rest v = (v ∷ [], (surface-val s ∷ [], (spectrum-val eta ∷ [], (spectrum-val k ∷ [], (spectrum-val outer ∷ [], (bounce-val d ∷ [], tt))))))
 
   abbrev ptr-val : Val
   ptr-val = vptr (a .0 .ptr .0) (a .0 .ptr .1)
 
   -- what the contracts say of the answer r, and of the path p′ that is stored
   abbrev Answered : Bounced → Type 0
-  Answered r = outcome r ≡ bounce p (microsurface s (now eta) (now k)) d
+  Answered r = outcome r ≡ bounce p (microsurface s (now eta) (now k) (now outer)) d
 
   abbrev Carried : Bounced → Path → Type 0
   Carried r p′ = p′ ≡ pathOf (outcome r)
@@ -170,7 +174,7 @@ module _ {M : Type 1} (𝓤 : URA M) (H : Heap 𝓤) (A : Atoms 𝓤) (W : Given
 
   -- the tokens of the spectra's lifetimes, and what each spectrum owns
   abbrev Tokens : Item 𝓤
-  Tokens = ‵ (flft (κs .1 .0) (qs .1 .0)) ⊛ ‵ (flft (κs .1 .1 .0) (qs .1 .1 .0)) ⊛ ‵ ftrue
+  Tokens = ‵ (flft (κs .1 .0) (qs .1 .0)) ⊛ ‵ (flft (κs .1 .1 .0) (qs .1 .1 .0)) ⊛ ‵ (flft (κs .1 .1 .1 .0) (qs .1 .1 .1 .0)) ⊛ ‵ ftrue
 
   abbrev Eta : Fml
   Eta = ShrSlice (named 1) (κs .1 .0) f64 .own eta (spectrum-val eta ∷ [])
@@ -178,31 +182,34 @@ module _ {M : Type 1} (𝓤 : URA M) (H : Heap 𝓤) (A : Atoms 𝓤) (W : Given
   abbrev K : Fml
   K = ShrSlice (named 2) (κs .1 .1 .0) f64 .own k (spectrum-val k ∷ [])
 
+  abbrev Outer : Fml
+  Outer = ShrSlice (named 3) (κs .1 .1 .1 .0) f64 .own outer (spectrum-val outer ∷ [])
+
   -- what is had at entry and at exit, with the path p′ behind the reference
   abbrev Had : Path → List (Item 𝓤)
   Had p′ =
       ‵ (fobs (a .0 .name) (P.the-row .coded .code p′))
       ∷ ‵ (fbor (κs .0) (Body (mem P.the-row) (a .0 .ptr .0) (a .0 .ptr .1) (a .0 .name)))
-      ∷ ‵ (flft (κs .0) (qs .0)) ∷ Tokens ∷ ‵ Eta ∷ ‵ K ∷ []
+      ∷ ‵ (flft (κs .0) (qs .0)) ∷ Tokens ∷ ‵ Eta ∷ ‵ K ∷ ‵ Outer ∷ []
 
   enters : ent 𝓤 (onEntry 𝓤 H A on.signature κs qs a (with-rest ptr-val)) (⋆ 𝓤 H A (Had p))
   enters =
       qed W ((‵ (flft (κs .0) (qs .0)) ⊛ Tokens) ∷ ‵ (owns (typesAt (on.signature .params) κs) a (with-rest ptr-val)) ∷ []) ∵
-      split ! $ move ! (2 ∷ []) $ fsplit ! $ fsplit3 ! $ drop ! $ move ! (2 ∷ []) $ fsplit3 ! $ move ! (2 ∷ []) $ fsplit ! $
-      -- [k; the bounce; the surface; eta; obs; the borrow; its token; the tokens]
-      keep ! (4 ∷ 5 ∷ 6 ∷ 7 ∷ 3 ∷ 0 ∷ []) $ done !
+      split ! $ move ! (2 ∷ []) $ fsplit ! $ fsplit3 ! $ drop ! $ move ! (2 ∷ []) $ fsplit3 ! $ move ! (2 ∷ []) $ fsplit3 ! $
+      -- [k; outer; the bounce; the surface; eta; obs; the borrow; its token; the tokens]
+      keep ! (5 ∷ 6 ∷ 7 ∷ 8 ∷ 4 ∷ 0 ∷ 1 ∷ []) $ done !
 
   module _ (is-s : Is S.the-row s (surface-val s ∷ [])) (is-d : Is B.the-row d (bounce-val d ∷ [])) where
     exits : (r : Bounced) (p′ : Path) (u : Val) → Is R.the-row r (u ∷ []) → Answered r → Carried r p′ → ent 𝓤 (⋆ 𝓤 H A (Had p′)) (Post u)
     exits r p′ u is-r answered carried =
         qed W (Had p′) ∵
         suffices ! _ (ends-at 𝓤 H A on.ended stayed (on.clauses 𝓤 H A at-mem run) W bound u r
-        (p′, (tt, (tt, (tt, (tt, tt))))) (tt, (tt, (tt, (tt, (tt, tt)))))) $
+        (p′, (tt, (tt, (tt, (tt, (tt, tt)))))) (tt, (tt, (tt, (tt, (tt, (tt, tt))))))) $
         says ! (answered, carried) $ move ! (2 ∷ 3 ∷ []) $ join ! $ frame ! $
-        -- [obs; the borrow; eta; k], of which what each parameter has at exit is put together, the last first
+        -- [obs; the borrow; eta; k; outer], of which what each parameter has at exit is put together, the last first
         feqI ! (List Val) (ptr-val ∷ []) (ptr-val ∷ []) refl $ fjoin3 ! $
         nothing ! $ owned ! B.the-row (Is B.the-row) (bounce-made 𝓤 H A W) d _ is-d $ fjoin ! $
-        move ! (3 ∷ 0 ∷ []) $ fjoin ! $ move ! (2 ∷ 0 ∷ []) $ fjoin ! $
+        move ! (4 ∷ 0 ∷ []) $ fjoin ! $ move ! (3 ∷ 0 ∷ []) $ fjoin ! $ move ! (2 ∷ 0 ∷ []) $ fjoin ! $
         owned ! S.the-row (Is S.the-row) (surface-made 𝓤 H A W) s _ is-s $ fjoin ! $ move ! (1 ∷ 0 ∷ []) $ fjoin ! $
         owned ! R.the-row (Is R.the-row) (answer-made 𝓤 H A W) r _ is-r $ move ! (1 ∷ 0 ∷ []) $ done !
 
@@ -210,18 +217,25 @@ module _ {M : Type 1} (𝓤 : URA M) (H : Heap 𝓤) (A : Atoms 𝓤) (W : Given
     abbrev to-bounce : ByValue 𝓤 H A at-mem run .Ghost
     to-bounce = ((κs .1, qs .1, tt, (p, a .1), with-rest (path-val p)), tt)
 
-    asks-bounce : Is P.the-row p (path-val p ∷ [])
-        → ent 𝓤 (⋆ 𝓤 H A (Tokens ∷ ‵ Eta ∷ ‵ K ∷ [])) (⋆ 𝓤 H A (raw (ByValue 𝓤 H A at-mem run .pre to-bounce) ∷ ‵ Eta ∷ ‵ K ∷ []))
+    -- what goes to it; and that made into what it asks, with the copies that are kept
+    abbrev Lent : List (Item 𝓤)
+    Lent = Tokens ∷ ‵ Eta ∷ ‵ K ∷ ‵ Outer ∷ []
+
+    abbrev Asked : List (Item 𝓤)
+    Asked = raw (ByValue 𝓤 H A at-mem run .pre to-bounce) ∷ ‵ Eta ∷ ‵ K ∷ ‵ Outer ∷ []
+
+    asks-bounce : Is P.the-row p (path-val p ∷ []) → ent 𝓤 (⋆ 𝓤 H A Lent) (⋆ 𝓤 H A Asked)
     asks-bounce is-p =
-        qed W (Tokens ∷ ‵ Eta ∷ ‵ K ∷ []) ∵
-        move ! (2 ∷ []) $ use1 W (‵ K ⊛ ‵ K) (shr-slice-copy 𝓤 H A W (named 2) (κs .1 .1 .0) f64 .twice k (spectrum-val k ∷ [])) $ split ! $
-        move ! (3 ∷ []) $ use1 W (‵ Eta ⊛ ‵ Eta) (shr-slice-copy 𝓤 H A W (named 1) (κs .1 .0) f64 .twice eta (spectrum-val eta ∷ [])) $ split ! $
-        -- [eta; eta; k; k; the tokens], of which what the arguments own is put together, the last first
+        qed W Lent ∵
+        move ! (3 ∷ []) $ use1 W (‵ Outer ⊛ ‵ Outer) (shr-slice-copy 𝓤 H A W (named 3) (κs .1 .1 .1 .0) f64 .twice outer (spectrum-val outer ∷ [])) $ split ! $
+        move ! (4 ∷ []) $ use1 W (‵ K ⊛ ‵ K) (shr-slice-copy 𝓤 H A W (named 2) (κs .1 .1 .0) f64 .twice k (spectrum-val k ∷ [])) $ split ! $
+        move ! (5 ∷ []) $ use1 W (‵ Eta ⊛ ‵ Eta) (shr-slice-copy 𝓤 H A W (named 1) (κs .1 .0) f64 .twice eta (spectrum-val eta ∷ [])) $ split ! $
+        -- [eta; eta; k; k; outer; outer; the tokens], of which what the arguments own is put together, the last first
         nothing ! $ owned ! B.the-row (Is B.the-row) (bounce-made 𝓤 H A W) d _ is-d $ fjoin ! $
-        move ! (3 ∷ 0 ∷ []) $ fjoin ! $ move ! (1 ∷ 0 ∷ []) $ fjoin ! $
+        move ! (5 ∷ 0 ∷ []) $ fjoin ! $ move ! (3 ∷ 0 ∷ []) $ fjoin ! $ move ! (1 ∷ 0 ∷ []) $ fjoin ! $
         owned ! S.the-row (Is S.the-row) (surface-made 𝓤 H A W) s _ is-s $ fjoin ! $
         owned ! P.the-row (Is P.the-row) (path-made 𝓤 H A W) p _ is-p $ fjoin ! $
-        move ! (3 ∷ 0 ∷ []) $ join ! $ nothing ! $ move ! (1 ∷ 0 ∷ []) $ join ! $ frame ! $ done !
+        move ! (4 ∷ 0 ∷ []) $ join ! $ nothing ! $ move ! (1 ∷ 0 ∷ []) $ join ! $ frame ! $ done !
 
     abbrev bounce-ensures : Bounced → SProp 𝓤
     bounce-ensures r = ensured 𝓤 H A by-value.ended (by-value.clauses 𝓤 H A at-mem run) (κs .1) (p, a .1) tt r
@@ -251,63 +265,66 @@ module _ {M : Type 1} (𝓤 : URA M) (H : Heap 𝓤) (A : Atoms 𝓤) (W : Given
     module _ (C : Calls 𝓤 H) (Λ : Loops 𝓤 H) (fm : FmC 𝓤 H (W .laws) C)
         (known-bounce : Triple 𝓤 (C #bounce) (ByValue 𝓤 H A at-mem run)) (known-path : Triple 𝓤 (C #path) (PathOf 𝓤 H A at-mem run))
         (is-eta : Is (ShrSlice (named 1) (κs .1 .0) f64) eta (spectrum-val eta ∷ []))
-        (is-k : Is (ShrSlice (named 2) (κs .1 .1 .0) f64) k (spectrum-val k ∷ [])) where
+        (is-k : Is (ShrSlice (named 2) (κs .1 .1 .0) f64) k (spectrum-val k ∷ []))
+        (is-outer : Is (ShrSlice (named 3) (κs .1 .1 .1 .0) f64) outer (spectrum-val outer ∷ [])) where
       abbrev passed : List Val
-      passed = ptr-val ∷ surface-val s ∷ spectrum-val eta ∷ spectrum-val k ∷ bounce-val d ∷ []
+      passed = ptr-val ∷ surface-val s ∷ spectrum-val eta ∷ spectrum-val k ∷ spectrum-val outer ∷ bounce-val d ∷ []
 
       walk : ent 𝓤 (⋆ 𝓤 H A (Had p)) (WpFn 𝓤 H C Λ code.function passed Post)
       walk =
           qed W (Had p) ∵ enter ! C Λ code.function passed _ $
           alloc1 ! (λ l₀. alloc1 ! (λ l₁. alloc1 ! (λ l₂. alloc1 ! (λ l₃. alloc1 ! (λ l₄.
-          alloc1 ! (λ l₅. alloc1 ! (λ l₆. alloc1 ! (λ l₇. alloc1 ! (λ l₈. alloc0 ! $ params1 ! $
-          pass1 ! (init ! 14 refl (tt, tt)) $
-          pass1 ! (init ! 12 refl (LL.lawful S.the-type S′.the-laws 𝓤 H A W .typed s _ is-s .0)) $
-          pass1 ! (init ! 10 refl (shr-slice-lawful 𝓤 H A W (named 1) (κs .1 .0) f64 .typed eta _ is-eta .0)) $
-          pass1 ! (init ! 8 refl (shr-slice-lawful 𝓤 H A W (named 2) (κs .1 .1 .0) f64 .typed k _ is-k .0)) $
+          alloc1 ! (λ l₅. alloc1 ! (λ l₆. alloc1 ! (λ l₇. alloc1 ! (λ l₈. alloc1 ! (λ l₉. alloc0 ! $ params1 ! $
+          pass1 ! (init ! 16 refl (tt, tt)) $
+          pass1 ! (init ! 14 refl (LL.lawful S.the-type S′.the-laws 𝓤 H A W .typed s _ is-s .0)) $
+          pass1 ! (init ! 12 refl (shr-slice-lawful 𝓤 H A W (named 1) (κs .1 .0) f64 .typed eta _ is-eta .0)) $
+          pass1 ! (init ! 10 refl (shr-slice-lawful 𝓤 H A W (named 2) (κs .1 .1 .0) f64 .typed k _ is-k .0)) $
+          pass1 ! (init ! 8 refl (shr-slice-lawful 𝓤 H A W (named 3) (κs .1 .1 .1 .0) f64 .typed outer _ is-outer .0)) $
           pass1 ! (init ! 6 refl (LL.lawful B.the-type B′.the-laws 𝓤 H A W .typed d _ is-d .0)) $ pass0 ! $
           -- the borrow is opened
-          move ! (18 ∷ 19 ∷ 20 ∷ []) $ opens ! tt P.the-row {h = p} (a .0 .ptr .0) (a .0 .ptr .1) (λ vs.
+          move ! (20 ∷ 21 ∷ 22 ∷ []) $ opens ! tt P.the-row {h = p} (a .0 .ptr .0) (a .0 .ptr .1) (λ vs.
           spelt ! P.the-row (Is P.the-row) (shows 𝓤 H A P.the-row) (LL.vals P.the-type P′.the-laws) (LL.tells P.the-type P′.the-laws)
           fullShare p vs (a .0 .ptr .0) (a .0 .ptr .1) $
           move ! (1 ∷ []) $ facts ! P.the-row (Is P.the-row) (shows 𝓤 H A P.the-row) p (path-val p ∷ []) (λ is-p.
-          -- [the path's cell; the open borrow; obs; auth; room for _8, _7 and _6; _5; _4; _3; _2; _1; room for _0; the tokens; eta; k],
+          -- [the path's cell; the open borrow; obs; auth; room for _9, _8 and _7; _6; _5; _4; _3; _2; _1; room for _0; the tokens; eta; k; outer],
           -- and behind each local what frees it
           -- let before = *path;
-          assigns ! (of-opd ! (load ! (from ! (hop ! (look ! 18 refl) (stop !))) (look-raw ! 0 refl)))
+          assigns ! (of-opd ! (load ! (from ! (hop ! (look ! 20 refl) (stop !))) (look-raw ! 0 refl)))
           (from ! (stop !)) (init ! 8 refl (path-typed 𝓤 H A W p _ is-p)) $
-          -- let answer = bounce(before, surface, eta, k, b);
-          move ! (22 ∷ 23 ∷ 24 ∷ []) $ use3 W (raw (ByValue 𝓤 H A at-mem run .pre to-bounce) ⊛ ‵ Eta ⊛ ‵ K) (asks-bounce is-p) $ split3 ! $
+          -- let answer = bounce(before, surface, eta, k, outer, b);
+          move ! (24 ∷ 25 ∷ 26 ∷ 27 ∷ []) $ cut Lent Asked _ (asks-bounce is-p) $
           calls-at ! fm (ByValue 𝓤 H A at-mem run) known-bounce to-bounce
-          (and-then ! (load ! (from ! (stop !)) (look ! 11 refl)) (and-then ! (load ! (from ! (stop !)) (look ! 19 refl))
-          (and-then ! (load ! (from ! (stop !)) (look ! 17 refl)) (and-then ! (load ! (from ! (stop !)) (look ! 15 refl))
-          (and-then ! (load ! (from ! (stop !)) (look ! 13 refl)) (no-more !)))))) (λ u.
+          (and-then ! (load ! (from ! (stop !)) (look ! 12 refl)) (and-then ! (load ! (from ! (stop !)) (look ! 22 refl))
+          (and-then ! (load ! (from ! (stop !)) (look ! 20 refl)) (and-then ! (load ! (from ! (stop !)) (look ! 18 refl))
+          (and-then ! (load ! (from ! (stop !)) (look ! 16 refl)) (and-then ! (load ! (from ! (stop !)) (look ! 14 refl)) (no-more !))))))) (λ u.
           use1 W (after-bounce u) (id⊢ 𝓤 _) $ await ! tt $ pick ! (λ r.
           split ! $ move ! (1 ∷ []) $ use1 W (raw (fact 𝓤 (Answered r))) (says-bounce r) $ heard ! (Answered r) (λ answered.
           split ! $ move ! (1 ∷ []) $ facts ! R.the-row (Is R.the-row) (shows 𝓤 H A R.the-row) r (u ∷ []) (λ is-r.
-          -- [the tokens; eta; k; the path's cell; the open borrow; obs; auth; room for _8; …; room for _7; …; the locals from _6 down]
-          land ! (from ! (stop !)) (init ! 9 refl (answer-typed 𝓤 H A W r u is-r)) $
+          -- [the tokens; eta; k; outer; the path's cell; the open borrow; obs; auth; room for _9; …; room for _8; …; the locals from _7 down]
+          land ! (from ! (stop !)) (init ! 10 refl (answer-typed 𝓤 H A W r u is-r)) $
           -- *path = answer.path();
           owned ! R.the-row (Is R.the-row) (answer-made 𝓤 H A W) r _ is-r $ use1 W (raw (PathOf 𝓤 H A at-mem run .pre (to-path r u))) (asks-path r u) $
-          calls-at ! fm (PathOf 𝓤 H A at-mem run) known-path (to-path r u) (and-then ! (load ! (from ! (stop !)) (look ! 10 refl)) (no-more !)) (λ v.
+          calls-at ! fm (PathOf 𝓤 H A at-mem run) known-path (to-path r u) (and-then ! (load ! (from ! (stop !)) (look ! 11 refl)) (no-more !)) (λ v.
           use1 W (after-path r v) (id⊢ 𝓤 _) $ await ! tt $ pick ! (λ p′.
           split ! $ move ! (1 ∷ []) $ use1 W (raw (fact 𝓤 (Carried r p′))) (says-path r p′) $ heard ! (Carried r p′) (λ carried.
           split ! $ drop ! $ facts ! P.the-row (Is P.the-row) (shows 𝓤 H A P.the-row) p′ (v ∷ []) (λ is-p′.
-          land ! (from ! (stop !)) (init ! 7 refl (path-typed 𝓤 H A W p′ v is-p′)) $
-          assigns ! (of-opd ! (load ! (from ! (stop !)) (look ! 7 refl)))
-          (from ! (hop ! (look ! 21 refl) (stop !))) (store-raw ! 3 refl (path-typed 𝓤 H A W p′ v is-p′)) $
+          land ! (from ! (stop !)) (init ! 8 refl (path-typed 𝓤 H A W p′ v is-p′)) $
+          assigns ! (of-opd ! (load ! (from ! (stop !)) (look ! 8 refl)))
+          (from ! (hop ! (look ! 24 refl) (stop !))) (store-raw ! 4 refl (path-typed 𝓤 H A W p′ v is-p′)) $
           -- answer
-          assigns ! (of-opd ! (load ! (from ! (stop !)) (look ! 9 refl))) (from ! (stop !)) (init ! 23 refl (answer-typed 𝓤 H A W r u is-r)) $
+          assigns ! (of-opd ! (load ! (from ! (stop !)) (look ! 10 refl))) (from ! (stop !)) (init ! 26 refl (answer-typed 𝓤 H A W r u is-r)) $
           -- the borrow is closed at the new path
           owned ! P.the-row (Is P.the-row) (path-made 𝓤 H A W) p′ _ is-p′ $
-          move ! (4 ∷ 0 ∷ 5 ∷ 6 ∷ 7 ∷ []) $ closes ! tt P.the-row p′ (v ∷ []) (a .0 .ptr .0) (a .0 .ptr .1) $
-          -- [what is had at exit; the locals from _8 down]
-          returns ! (look ! 22 refl) $
-          forget ! 6 refl $ forget ! 8 refl $ forget ! 10 refl $ forget ! 12 refl $ forget ! 14 refl $
-          forget ! 16 refl $ forget ! 18 refl $ forget ! 20 refl $ forget ! 22 refl $
-          move ! (22 ∷ 23 ∷ []) $ free1 ! $ move ! (20 ∷ 21 ∷ []) $ free1 ! $ move ! (18 ∷ 19 ∷ []) $ free1 ! $
-          move ! (16 ∷ 17 ∷ []) $ free1 ! $ move ! (14 ∷ 15 ∷ []) $ free1 ! $ move ! (12 ∷ 13 ∷ []) $ free1 ! $
-          move ! (10 ∷ 11 ∷ []) $ free1 ! $ move ! (8 ∷ 9 ∷ []) $ free1 ! $ move ! (6 ∷ 7 ∷ []) $ free1 ! $ free0 ! $
-          by ! (exits r p′ u is-r answered carried))))))))))))))))))))
+          move ! (5 ∷ 0 ∷ 6 ∷ 7 ∷ 8 ∷ []) $ closes ! tt P.the-row p′ (v ∷ []) (a .0 .ptr .0) (a .0 .ptr .1) $
+          -- [what is had at exit; the locals from _9 down]
+          returns ! (look ! 25 refl) $
+          forget ! 7 refl $ forget ! 9 refl $ forget ! 11 refl $ forget ! 13 refl $ forget ! 15 refl $
+          forget ! 17 refl $ forget ! 19 refl $ forget ! 21 refl $ forget ! 23 refl $ forget ! 25 refl $
+          move ! (25 ∷ 26 ∷ []) $ free1 ! $ move ! (23 ∷ 24 ∷ []) $ free1 ! $ move ! (21 ∷ 22 ∷ []) $ free1 ! $
+          move ! (19 ∷ 20 ∷ []) $ free1 ! $ move ! (17 ∷ 18 ∷ []) $ free1 ! $ move ! (15 ∷ 16 ∷ []) $ free1 ! $
+          move ! (13 ∷ 14 ∷ []) $ free1 ! $ move ! (11 ∷ 12 ∷ []) $ free1 ! $ move ! (9 ∷ 10 ∷ []) $ free1 ! $
+          move ! (7 ∷ 8 ∷ []) $ free1 ! $ free0 ! $
+          by ! (exits r p′ u is-r answered carried)))))))))))))))))))))
 
 module _ {M : Type 1} (𝓤 : URA M) (H : Heap 𝓤) (A : Atoms 𝓤) (W : Given 𝓤 H A) (at-mem : Memory → SProp 𝓤) (run : Routine → Fun 𝓤) where
   bounce-on-walks : (C : Calls 𝓤 H) (Λ : Loops 𝓤 H) → FmC 𝓤 H (W .laws) C
@@ -315,25 +332,28 @@ module _ {M : Type 1} (𝓤 : URA M) (H : Heap 𝓤) (A : Atoms 𝓤) (W : Given
       → Walks 𝓤 H A on.ended stayed (WpFn 𝓤 H C Λ code.function) (on.clauses 𝓤 H A at-mem run)
   bounce-on-walks C Λ fm known-bounce known-path =
       walked 𝓤 H A on.ended stayed (on.clauses 𝓤 H A at-mem run) (WpFn 𝓤 H C Λ code.function)
-      (λ κs. (ptr-vals, (LL.vals S.the-type S′.the-laws, (slice-vals, (slice-vals, (LL.vals B.the-type B′.the-laws, tt))))))
+      (λ κs. (ptr-vals, (LL.vals S.the-type S′.the-laws, (slice-vals, (slice-vals, (slice-vals, (LL.vals B.the-type B′.the-laws, tt)))))))
       (λ κs.
       let path-tells = mut-tells (named 0) (κs .0) P.the-row in
       let eta-tells = shr-slice-tells (named 1) (κs .1 .0) f64 in
       let k-tells = shr-slice-tells (named 2) (κs .1 .1 .0) f64 in
-      (path-tells, (LL.tells S.the-type S′.the-laws, (eta-tells, (k-tells, (LL.tells B.the-type B′.the-laws, tt))))))
+      let outer-tells = shr-slice-tells (named 3) (κs .1 .1 .1 .0) f64 in
+      (path-tells, (LL.tells S.the-type S′.the-laws, (eta-tells, (k-tells, (outer-tells, (LL.tells B.the-type B′.the-laws, tt)))))))
       (λ κs qs bounds a g are.
       via 𝓤 _ (fst∗ 𝓤 _ (emp 𝓤))
       (via 𝓤 _ (enters 𝓤 H A W at-mem run κs qs a)
-      (walk 𝓤 H A W at-mem run κs qs a (are .1 .0) (are .1 .1 .1 .1 .0) C Λ fm known-bounce known-path (are .1 .1 .0) (are .1 .1 .1 .0))))
+      (walk 𝓤 H A W at-mem run κs qs a (are .1 .0) (are .1 .1 .1 .1 .1 .0) C Λ fm known-bounce known-path
+      (are .1 .1 .0) (are .1 .1 .1 .0) (are .1 .1 .1 .1 .0))))
 
-  goes : AllGo 𝓤 H A W 3 (on.signature .params) (on.ended .kept) stayed
+  goes : AllGo 𝓤 H A W 4 (on.signature .params) (on.ended .kept) stayed
   goes =
-      let path-goes = goes-ref 𝓤 H A W 3 0 tt behind in
-      let surface-goes = goes-none 𝓤 H A W 3 (λ _. S.the-row) yes (λ κs x f. refl) in
-      let eta-goes = goes-none-slice 𝓤 H A W 3 (1 ∷ []) tt entries yes in
-      let k-goes = goes-none-slice 𝓤 H A W 3 (2 ∷ []) tt entries yes in
-      let bounce-goes = goes-none 𝓤 H A W 3 (λ _. B.the-row) yes (λ κs x f. refl) in
-      (path-goes, (surface-goes, (eta-goes, (k-goes, (bounce-goes, tt)))))
+      let path-goes = goes-ref 𝓤 H A W 4 0 tt behind in
+      let surface-goes = goes-none 𝓤 H A W 4 (λ _. S.the-row) yes (λ κs x f. refl) in
+      let eta-goes = goes-none-slice 𝓤 H A W 4 (1 ∷ []) tt entries yes in
+      let k-goes = goes-none-slice 𝓤 H A W 4 (2 ∷ []) tt entries yes in
+      let outer-goes = goes-none-slice 𝓤 H A W 4 (3 ∷ []) tt entries yes in
+      let bounce-goes = goes-none 𝓤 H A W 4 (λ _. B.the-row) yes (λ κs x f. refl) in
+      (path-goes, (surface-goes, (eta-goes, (k-goes, (outer-goes, (bounce-goes, tt))))))
 
 bounce-on-meets : {M : Type 1} (𝓤 : URA M) (H : Heap 𝓤) (A : Atoms 𝓤) (W : Given 𝓤 H A) (at-mem : Memory → SProp 𝓤) (run : Routine → Fun 𝓤) (𝓣 : Tables 𝓤 H)
     → Triple 𝓤 (𝓣 .C #bounce) (ByValue 𝓤 H A at-mem run) → Triple 𝓤 (𝓣 .C #path) (PathOf 𝓤 H A at-mem run)
