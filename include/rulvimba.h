@@ -25,22 +25,23 @@
  * DIRECTIONS. wo points away from the surface, back to where the light comes from; wi points to where it
  * goes. Light that goes on to another surface has there wo = -wi.
  *
- * SIDES. A normal points to the outer side. On glass eta is the index of the inner side, away from the
- * normal, over that of the outer side. Light enters where wo is on the outer side, its product with the
- * normal not below 0, and leaves where wo is on the inner side, the product below 0; the normal is never
- * turned. On rough glass the normal of the sampled facet stands for it. The backface flag is read on
- * metal alone: where it is set, the light is lost. On glass it does nothing. Metal without it reflects on
- * either side.
+ * SIDES. A normal points to the outer side. On glass eta is the refraction index of the inner side, away from
+ * the normal, and outer that of the outer side: ones for air. What counts is the index of the surface, which is
+ * their quotient at a wavelength, eta / outer, rounded once, and 0 at wavelength 0. Light enters where wo is on
+ * the outer side, its product with the normal not below 0, and leaves where wo is on the inner side, the product
+ * below 0; the normal is never turned. On rough glass the normal of the sampled facet stands for it. The
+ * backface flag is read on metal alone: where it is set, the light is lost. On glass it does nothing. Metal
+ * without it reflects on either side.
  *
  * DENSITIES. A surface that sends light into one direction has a probability: mean roughness below 0.001,
- * or glass whose eta at the leading wavelength (a path's first) is 1.0. Any other has a density per solid
+ * or glass whose index at the leading wavelength (a path's first) is 1.0. Any other has a density per solid
  * angle, per steradian.
  */
 #ifndef RULVIMBA_H
 #define RULVIMBA_H
 
 /* Raised with each change of a call, a struct or a number. */
-#define RULVIMBA_VERSION 2
+#define RULVIMBA_VERSION 3
 
 #include <stdbool.h>
 #include <stddef.h>
@@ -63,7 +64,8 @@ enum {
     RULVIMBA_REFUSED_NOT_FINITE = 9,    /* a density that is not finite; of an arrival also one below 0 */
     RULVIMBA_REFUSED_POWER = 10,
     RULVIMBA_REFUSED_FULL = 11,         /* 64 candidates are present */
-    RULVIMBA_REFUSED_ID = 12            /* an id that arrives and is present, or departs and is not */
+    RULVIMBA_REFUSED_ID = 12,           /* an id that arrives and is present, or departs and is not */
+    RULVIMBA_REFUSED_OUTER = 13         /* glass's outer spectrum; checked behind k */
 };
 
 /* ---- what goes in ---- */
@@ -83,12 +85,21 @@ enum { RULVIMBA_METAL = 0, RULVIMBA_GLASS = 1 };
 enum { RULVIMBA_SAMPLES = 95, RULVIMBA_FINE_SAMPLES = 471 };
 
 /*
- * A surface. Its two spectra, the refraction index eta and the absorption coefficient k, are lent
- * beside it in each call, as a pointer and a length. They have one spacing: as many entries of each. No
- * spacing is kept with a surface, so another call may lend it tables of the other.
+ * A surface. Its spectra are lent beside it in each call, each as a pointer and a length: the refraction
+ * index eta, the absorption coefficient k and, for glass, outer, the refraction index of what lies outside it,
+ * on the normal's side. They have one spacing: as many entries of each. No spacing is kept with a surface, so
+ * another call may lend it tables of the other.
  * Every call that takes a surface first checks it: roughness x and y from 1e-5 to 1, else 1, and a kind
  * that is neither RULVIMBA_METAL nor RULVIMBA_GLASS is 1 too; 95 or 471 entries of eta from 0.01 to 100,
- * else 2; as many entries of k, all of them 0 or, on metal alone, all of them from 1e-6 to 100, else 3.
+ * else 2; as many entries of k, all of them 0 or, on metal alone, all of them from 1e-6 to 100, else 3; on glass
+ * as many entries of outer from 0.01 to 100, else 13.
+ * Air is ones, and not an outer spectrum that is missing:
+ *     double air[RULVIMBA_SAMPLES];
+ *     for (int i = 0; i < RULVIMBA_SAMPLES; i++)
+ *         air[i] = 1.0;
+ * Metal has no outer spectrum: what is lent beside it is not read and never 13, and may be of length 0 (its
+ * pointer must not be NULL even then). Between two entries a spectrum is interpolated, save an outer one that is the
+ * same throughout: that gives its entry.
  */
 typedef struct {
     uint64_t kind;
@@ -143,13 +154,14 @@ typedef struct {
 
 /*
  * A surface of one roughness from 0 to 1, which is raised to 1e-5 if it is lower. Refused: 1 the kind
- * or the roughness; 2 eta; 3 k. The spectra are not kept: lend the same ones in later calls.
+ * or the roughness; 2 eta; 3 k; 13 outer. The spectra are not kept: lend the same ones in later calls.
  */
 rulvimba_surface_result rulvimba_make_surface(uint64_t kind, double roughness, const double *eta, size_t eta_len,
-                                              const double *k, size_t k_len);
+                                              const double *k, size_t k_len, const double *outer, size_t outer_len);
 
-/* The number that a surface is refused with, 1, 2 or 3, or 0. */
-uint64_t rulvimba_check_surface(rulvimba_surface surface, const double *eta, size_t eta_len, const double *k, size_t k_len);
+/* The number that a surface is refused with, 1, 2, 3 or 13, or 0. */
+uint64_t rulvimba_check_surface(rulvimba_surface surface, const double *eta, size_t eta_len, const double *k, size_t k_len,
+                                const double *outer, size_t outer_len);
 
 /* ---- a path in the caller's memory ---- */
 
@@ -162,12 +174,13 @@ uint64_t rulvimba_start(rulvimba_path *path, rulvimba_color lambda);
 /*
  * A bounce of *path. Refused: the surface; 4 the path's wavelengths (0 is allowed in the second to the
  * fourth); 10 a power outside 0 to 1; 5 wo, then the normal; 6 u, then disk; 7 c and s; 8 ks, then tf;
- * and *path is as it was. Otherwise *path holds the path after the bounce: on glass whose eta is not
- * the same throughout, wavelengths two to four are 0; each power is what it was times the weight at its
+ * and *path is as it was. Otherwise *path holds the path after the bounce: on glass, unless eta is the same
+ * throughout and outer is too, wavelengths two to four are 0; each power is what it was times the weight at its
  * wavelength, and 0 if the light is lost.
  */
 rulvimba_bounce_result rulvimba_bounce(rulvimba_path *path, rulvimba_surface surface, const double *eta, size_t eta_len,
-                                       const double *k, size_t k_len, rulvimba_bounce_args b);
+                                       const double *k, size_t k_len, const double *outer, size_t outer_len,
+                                       rulvimba_bounce_args b);
 
 /*
  * Many bounces on one surface, each on a path of its own and by itself as rulvimba_bounce has it.
@@ -187,12 +200,14 @@ rulvimba_bounce_result rulvimba_bounce(rulvimba_path *path, rulvimba_surface sur
  */
 enum { RULVIMBA_BOUNCE_IN = 27, RULVIMBA_BOUNCE_OUT = 18 };
 size_t rulvimba_bounces(rulvimba_surface surface, const double *eta, size_t eta_len, const double *k, size_t k_len,
-                        const double *input, size_t input_len, double *output, size_t output_len);
+                        const double *outer, size_t outer_len, const double *input, size_t input_len, double *output,
+                        size_t output_len);
 
 /* ---- terms. Directions are local here: z is along the shading normal ---- */
 
 /*
- * A spectrum's value at a wavelength, and 0 at wavelength 0. Refused: 2 for a length that is
+ * A spectrum's value at a wavelength, and 0 at wavelength 0. This is how eta and k are read, and an outer spectrum
+ * that varies; one that is the same throughout is read as its entry instead. Refused: 2 for a length that is
  * neither 95 nor 471, or an entry that is not finite; 4 for a wavelength that is neither 0 nor from 360 to 830.
  */
 rulvimba_float_result rulvimba_lookup(const double *values, size_t values_len, double lambda);
@@ -200,36 +215,43 @@ rulvimba_float_result rulvimba_lookup(const double *values, size_t values_len, d
 /* Facet terms: Lambda, the shadowing of one and of two directions, and the density of facet normals.
  * Refused: the surface; 5 a direction. */
 rulvimba_float_result rulvimba_lambda(rulvimba_surface surface, const double *eta, size_t eta_len, const double *k,
-                                      size_t k_len, rulvimba_vec3 w);
-rulvimba_float_result rulvimba_g1(rulvimba_surface surface, const double *eta, size_t eta_len, const double *k, size_t k_len,
-                                  rulvimba_vec3 wo, rulvimba_vec3 wh);
-rulvimba_float_result rulvimba_g(rulvimba_surface surface, const double *eta, size_t eta_len, const double *k, size_t k_len,
-                                 rulvimba_vec3 wo, rulvimba_vec3 wi, rulvimba_vec3 wh);
-rulvimba_float_result rulvimba_d(rulvimba_surface surface, const double *eta, size_t eta_len, const double *k, size_t k_len,
+                                      size_t k_len, const double *outer, size_t outer_len, rulvimba_vec3 w);
+rulvimba_float_result rulvimba_g1(rulvimba_surface surface, const double *eta, size_t eta_len, const double *k,
+                                  size_t k_len, const double *outer, size_t outer_len, rulvimba_vec3 wo,
+                                  rulvimba_vec3 wh);
+rulvimba_float_result rulvimba_g(rulvimba_surface surface, const double *eta, size_t eta_len, const double *k,
+                                 size_t k_len, const double *outer, size_t outer_len, rulvimba_vec3 wo, rulvimba_vec3 wi,
                                  rulvimba_vec3 wh);
+rulvimba_float_result rulvimba_d(rulvimba_surface surface, const double *eta, size_t eta_len, const double *k,
+                                 size_t k_len, const double *outer, size_t outer_len, rulvimba_vec3 wh);
 
 /* The Fresnel term at one wavelength, and at four. Refused: the surface; 5 wo, then wh; 4 a wavelength
  * that is neither 0 nor from 360 to 830. */
 rulvimba_float_result rulvimba_fresnel_at(rulvimba_surface surface, const double *eta, size_t eta_len, const double *k,
-                                          size_t k_len, rulvimba_vec3 wo, rulvimba_vec3 wh, double lambda);
+                                          size_t k_len, const double *outer, size_t outer_len, rulvimba_vec3 wo,
+                                          rulvimba_vec3 wh, double lambda);
 rulvimba_color_result rulvimba_fresnel(rulvimba_surface surface, const double *eta, size_t eta_len, const double *k,
-                                       size_t k_len, rulvimba_vec3 wo, rulvimba_vec3 wh, rulvimba_color lambda);
+                                       size_t k_len, const double *outer, size_t outer_len, rulvimba_vec3 wo,
+                                       rulvimba_vec3 wh, rulvimba_color lambda);
 
 /* A facet's normal, sampled. Refused: the surface; 5 wo; 6 disk; 7 c and s. */
 rulvimba_vec3_result rulvimba_sample_normal(rulvimba_surface surface, const double *eta, size_t eta_len, const double *k,
-                                            size_t k_len, rulvimba_vec3 wo, double disk, double c, double s);
+                                            size_t k_len, const double *outer, size_t outer_len, rulvimba_vec3 wo,
+                                            double disk, double c, double s);
 
 /* A mirror: the direction, or none if it lies below the surface. Refused: 5 wo, then n. */
 rulvimba_direction_result rulvimba_reflect(rulvimba_vec3 wo, rulvimba_vec3 n);
 
-/* A bend at an index from 0.01 to 100: the direction, none, or total internal reflection.
- * Refused: 2 eta; 5 wo, then n. */
+/* A bend at an index, which of a surface is eta / outer, from 0.01 to 100: the direction, none, or total internal
+ * reflection. A surface's own index may lie from 0.0001 to 10000: this call refuses what is beyond its limits.
+ * Refused: 2 the index; 5 wo, then n. */
 rulvimba_direction_result rulvimba_refract(double eta, rulvimba_vec3 wo, rulvimba_vec3 n);
 
 /* The density with which wi is sampled for wo, at the leading wavelength. Refused: the surface; 5 wo, then wi;
  * 4 a wavelength outside 360 to 830, 0 included; 9 a density that is not finite. */
 rulvimba_float_result rulvimba_density(rulvimba_surface surface, const double *eta, size_t eta_len, const double *k,
-                                       size_t k_len, rulvimba_vec3 wo, rulvimba_vec3 wi, bool reflection, double lambda);
+                                       size_t k_len, const double *outer, size_t outer_len, rulvimba_vec3 wo,
+                                       rulvimba_vec3 wi, bool reflection, double lambda);
 
 /* ---- the brightest directions: a list of candidates in the caller's memory ---- */
 

@@ -35,6 +35,7 @@ GROUNDS = {
     10: "a power is not from 0 to 1",
     11: "the list is full: 64 candidates are present",
     12: "the id that arrives is present already, or the one that departs is not",
+    13: "glass's outer spectrum is not one entry or as many as eta counts, each from 0.01 to 100",
 }
 
 # What is wrong with a line that is no command.
@@ -193,6 +194,10 @@ class Words:
             raise self.wrong(f"word {self.at} is {shown(word)} where {' or '.join(names)} should stand")
         return word
 
+    def has(self, word):
+        """Takes a word if it is the next; answers whether it is."""
+        return self.words[self.at:self.at + 1] == [word] and self.next(word) == word
+
     def index(self, limit, what):
         return self.below(self.is_index, limit, what)
 
@@ -241,8 +246,8 @@ class JobWords(Words):
         return self.index(2, what)
 
     def is_entry(self, at):
-        """A spectrum ends before a word of one letter, as `rays` reads it."""
-        return at < len(self.words) and len(self.words[at]) > 1
+        """A spectrum ends before a word of one letter or the word outer, as `rays` reads it."""
+        return at < len(self.words) and len(self.words[at]) > 1 and self.words[at] != "outer"
 
 
 class FigureWords(Words):
@@ -313,6 +318,7 @@ class Command(NamedTuple):
     numbers: tuple = ()
     eta: tuple = ()
     k: tuple = ()
+    outer: tuple = None  # None where the line has none, which stands for ones
 
 
 def command(source, line):
@@ -332,8 +338,9 @@ def surface_command(words):
     eta = entries(words)
     words.choice("k")
     k = entries(words)
+    outer = tuple(entries(words)) if words.has("outer") else None
     words.end()
-    return Command("surface", index, index, kind, numbers=(roughness,), eta=tuple(eta), k=tuple(k))
+    return Command("surface", index, index, kind, numbers=(roughness,), eta=tuple(eta), k=tuple(k), outer=outer)
 
 
 def entries(words):
@@ -526,27 +533,19 @@ def bounced(words, figure):
     return Figure(*figure[:3], answer, None, wi, density, unit, shares, wavelengths, powers)
 
 
-def peeked(words, word):
-    """Passes over a word if it is the next."""
-    if words.words[words.at:words.at + 1] != [word]:
-        return False
-    words.at += 1
-    return True
-
-
 def density_of(words):
-    if peeked(words, "not"):
+    if words.has("not"):
         words.choice("finite")
         return "not finite", ""
     return words.finite(), words.choice(*UNITS)
 
 
 def shares_of(words):
-    return () if peeked(words, "none") else tuple(words.numbers(2))
+    return () if words.has("none") else tuple(words.numbers(2))
 
 
 def found_density(words, figure):
-    if peeked(words, "refused"):
+    if words.has("refused"):
         return refused(words, figure)
     return Figure(*figure[:3], "ok", density=words.finite(), unit=words.choice(*UNITS))
 

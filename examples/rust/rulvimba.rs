@@ -140,84 +140,104 @@ mod c {
     use super::*;
     type P = *const f64;
     extern "C" {
-        pub fn rulvimba_make_surface(kind: u64, roughness: f64, eta: P, n: usize, k: P, m: usize) -> Answer<Surface>;
-        pub fn rulvimba_check_surface(surface: Surface, eta: P, n: usize, k: P, m: usize) -> u64;
+        pub fn rulvimba_make_surface(
+            kind: u64, roughness: f64, eta: P, n: usize, k: P, m: usize, outer: P, l: usize,
+        ) -> Answer<Surface>;
+        pub fn rulvimba_check_surface(surface: Surface, eta: P, n: usize, k: P, m: usize, outer: P, l: usize) -> u64;
         pub fn rulvimba_start(path: *mut Path, lambda: Color) -> u64;
-        pub fn rulvimba_bounce(path: *mut Path, surface: Surface, eta: P, n: usize, k: P, m: usize, b: BounceArgs) -> BounceResult;
+        pub fn rulvimba_bounce(
+            path: *mut Path, surface: Surface, eta: P, n: usize, k: P, m: usize, outer: P, l: usize, b: BounceArgs,
+        ) -> BounceResult;
         pub fn rulvimba_bounces(
-            surface: Surface, eta: P, n: usize, k: P, m: usize, input: P, input_len: usize, output: *mut f64, output_len: usize,
+            surface: Surface, eta: P, n: usize, k: P, m: usize, outer: P, l: usize, input: P, input_len: usize,
+            output: *mut f64, output_len: usize,
         ) -> usize;
         pub fn rulvimba_lookup(values: P, n: usize, lambda: f64) -> Answer<f64>;
-        pub fn rulvimba_lambda(surface: Surface, eta: P, n: usize, k: P, m: usize, w: Vec3) -> Answer<f64>;
-        pub fn rulvimba_g1(surface: Surface, eta: P, n: usize, k: P, m: usize, wo: Vec3, wh: Vec3) -> Answer<f64>;
-        pub fn rulvimba_g(surface: Surface, eta: P, n: usize, k: P, m: usize, wo: Vec3, wi: Vec3, wh: Vec3) -> Answer<f64>;
-        pub fn rulvimba_d(surface: Surface, eta: P, n: usize, k: P, m: usize, wh: Vec3) -> Answer<f64>;
-        pub fn rulvimba_fresnel_at(surface: Surface, eta: P, n: usize, k: P, m: usize, wo: Vec3, wh: Vec3, lambda: f64) -> Answer<f64>;
-        pub fn rulvimba_fresnel(surface: Surface, eta: P, n: usize, k: P, m: usize, wo: Vec3, wh: Vec3, lambda: Color) -> Answer<Color>;
+        pub fn rulvimba_lambda(surface: Surface, eta: P, n: usize, k: P, m: usize, outer: P, l: usize, w: Vec3) -> Answer<f64>;
+        pub fn rulvimba_g1(
+            surface: Surface, eta: P, n: usize, k: P, m: usize, outer: P, l: usize, wo: Vec3, wh: Vec3,
+        ) -> Answer<f64>;
+        pub fn rulvimba_g(
+            surface: Surface, eta: P, n: usize, k: P, m: usize, outer: P, l: usize, wo: Vec3, wi: Vec3, wh: Vec3,
+        ) -> Answer<f64>;
+        pub fn rulvimba_d(surface: Surface, eta: P, n: usize, k: P, m: usize, outer: P, l: usize, wh: Vec3) -> Answer<f64>;
+        pub fn rulvimba_fresnel_at(
+            surface: Surface, eta: P, n: usize, k: P, m: usize, outer: P, l: usize, wo: Vec3, wh: Vec3, lambda: f64,
+        ) -> Answer<f64>;
+        pub fn rulvimba_fresnel(
+            surface: Surface, eta: P, n: usize, k: P, m: usize, outer: P, l: usize, wo: Vec3, wh: Vec3, lambda: Color,
+        ) -> Answer<Color>;
         pub fn rulvimba_sample_normal(
-            surface: Surface, eta: P, n: usize, k: P, m: usize, wo: Vec3, disk: f64, c: f64, s: f64,
+            surface: Surface, eta: P, n: usize, k: P, m: usize, outer: P, l: usize, wo: Vec3, disk: f64, c: f64, s: f64,
         ) -> Answer<Vec3>;
         pub fn rulvimba_reflect(wo: Vec3, n: Vec3) -> DirectionResult;
         pub fn rulvimba_refract(eta: f64, wo: Vec3, n: Vec3) -> DirectionResult;
         pub fn rulvimba_density(
-            surface: Surface, eta: P, n: usize, k: P, m: usize, wo: Vec3, wi: Vec3, reflection: bool, lambda: f64,
+            surface: Surface, eta: P, n: usize, k: P, m: usize, outer: P, l: usize, wo: Vec3, wi: Vec3, reflection: bool,
+            lambda: f64,
         ) -> Answer<f64>;
         pub fn rulvimba_arrive_in(count: *mut usize, ids: *mut u16, densities: *mut f64, c: Candidate) -> u64;
         pub fn rulvimba_depart_in(count: *mut usize, ids: *mut u16, densities: *mut f64, id: u16) -> u64;
     }
 }
 
-/// The spectra of a surface, which are lent with it in each call: as many entries of each.
+/// The spectra of a surface, which are lent with it in each call: as many entries of each. `outer` is the refraction
+/// index of what lies outside glass, ones for air. Beside metal it isn't read, and may be empty.
 #[derive(Clone, Copy)]
 pub struct Spectra<'a> {
     pub eta: &'a [f64],
     pub k: &'a [f64],
+    pub outer: &'a [f64],
 }
 
+/// A call that lends a surface's spectra, behind the arguments that stand before them.
 macro_rules! with {
-    ($f:ident, $surface:expr, $s:expr $(, $rest:expr)*) => {
-        unsafe { c::$f($surface, $s.eta.as_ptr(), $s.eta.len(), $s.k.as_ptr(), $s.k.len() $(, $rest)*) }
+    ($f:ident, ($($before:expr),*), $s:expr $(, $rest:expr)*) => {
+        unsafe {
+            let (eta, k, outer) = ($s.eta, $s.k, $s.outer);
+            c::$f($($before,)* eta.as_ptr(), eta.len(), k.as_ptr(), k.len(), outer.as_ptr(), outer.len() $(, $rest)*)
+        }
     };
 }
 
 pub fn make_surface(kind: u64, roughness: f64, s: Spectra) -> Answer<Surface> {
-    unsafe { c::rulvimba_make_surface(kind, roughness, s.eta.as_ptr(), s.eta.len(), s.k.as_ptr(), s.k.len()) }
+    with!(rulvimba_make_surface, (kind, roughness), s)
 }
 pub fn check_surface(surface: Surface, s: Spectra) -> u64 {
-    with!(rulvimba_check_surface, surface, s)
+    with!(rulvimba_check_surface, (surface), s)
 }
 pub fn start(path: &mut Path, lambda: Color) -> u64 {
     unsafe { c::rulvimba_start(path, lambda) }
 }
 pub fn bounce(path: &mut Path, surface: Surface, s: Spectra, b: BounceArgs) -> BounceResult {
-    unsafe { c::rulvimba_bounce(path, surface, s.eta.as_ptr(), s.eta.len(), s.k.as_ptr(), s.k.len(), b) }
+    with!(rulvimba_bounce, (path, surface), s, b)
 }
 pub fn bounces(surface: Surface, s: Spectra, input: &[f64], output: &mut [f64]) -> usize {
-    with!(rulvimba_bounces, surface, s, input.as_ptr(), input.len(), output.as_mut_ptr(), output.len())
+    with!(rulvimba_bounces, (surface), s, input.as_ptr(), input.len(), output.as_mut_ptr(), output.len())
 }
 pub fn lookup(values: &[f64], lambda: f64) -> Answer<f64> {
     unsafe { c::rulvimba_lookup(values.as_ptr(), values.len(), lambda) }
 }
 pub fn lambda(surface: Surface, s: Spectra, w: Vec3) -> Answer<f64> {
-    with!(rulvimba_lambda, surface, s, w)
+    with!(rulvimba_lambda, (surface), s, w)
 }
 pub fn g1(surface: Surface, s: Spectra, wo: Vec3, wh: Vec3) -> Answer<f64> {
-    with!(rulvimba_g1, surface, s, wo, wh)
+    with!(rulvimba_g1, (surface), s, wo, wh)
 }
 pub fn g(surface: Surface, s: Spectra, wo: Vec3, wi: Vec3, wh: Vec3) -> Answer<f64> {
-    with!(rulvimba_g, surface, s, wo, wi, wh)
+    with!(rulvimba_g, (surface), s, wo, wi, wh)
 }
 pub fn d(surface: Surface, s: Spectra, wh: Vec3) -> Answer<f64> {
-    with!(rulvimba_d, surface, s, wh)
+    with!(rulvimba_d, (surface), s, wh)
 }
 pub fn fresnel_at(surface: Surface, s: Spectra, wo: Vec3, wh: Vec3, lambda: f64) -> Answer<f64> {
-    with!(rulvimba_fresnel_at, surface, s, wo, wh, lambda)
+    with!(rulvimba_fresnel_at, (surface), s, wo, wh, lambda)
 }
 pub fn fresnel(surface: Surface, s: Spectra, wo: Vec3, wh: Vec3, lambda: Color) -> Answer<Color> {
-    with!(rulvimba_fresnel, surface, s, wo, wh, lambda)
+    with!(rulvimba_fresnel, (surface), s, wo, wh, lambda)
 }
 pub fn sample_normal(surface: Surface, s: Spectra, wo: Vec3, disk: f64, cos: f64, sin: f64) -> Answer<Vec3> {
-    with!(rulvimba_sample_normal, surface, s, wo, disk, cos, sin)
+    with!(rulvimba_sample_normal, (surface), s, wo, disk, cos, sin)
 }
 pub fn reflect(wo: Vec3, n: Vec3) -> DirectionResult {
     unsafe { c::rulvimba_reflect(wo, n) }
@@ -226,7 +246,7 @@ pub fn refract(eta: f64, wo: Vec3, n: Vec3) -> DirectionResult {
     unsafe { c::rulvimba_refract(eta, wo, n) }
 }
 pub fn density(surface: Surface, s: Spectra, wo: Vec3, wi: Vec3, reflection: bool, lambda: f64) -> Answer<f64> {
-    with!(rulvimba_density, surface, s, wo, wi, reflection, lambda)
+    with!(rulvimba_density, (surface), s, wo, wi, reflection, lambda)
 }
 /// An arrival in a list whose fields stand anywhere: 0, or the number that it is refused by.
 pub fn arrive_in(count: &mut usize, ids: &mut [u16; CANDIDATES], densities: &mut [f64; CANDIDATES], c: Candidate) -> u64 {

@@ -1,5 +1,6 @@
-//! Light at a filled syringe, through the static library: what examples/c/syringe.c does, in Rust. The
-//! optical values are illustrative and are no data of a material. It must print examples/expected.
+//! Light at a filled syringe, through the static library: what examples/c/syringe.c does, in Rust. The water's index is
+//! a published one; the other optical values are illustrative and are no data of a material. It must print
+//! examples/expected.
 mod rulvimba;
 use rulvimba::*;
 
@@ -11,6 +12,20 @@ fn v(x: f64, y: f64, z: f64) -> Vec3 {
 
 fn four(s0: f64, s1: f64, s2: f64, s3: f64) -> Color {
     Color { s0, s1, s2, s3 }
+}
+
+fn turned(w: Vec3) -> Vec3 {
+    v(-w.x, -w.y, -w.z)
+}
+
+/// The refraction index of water at 20 degrees C, by the formula of Daimon and Masumura, Applied Optics 46 (2007),
+/// p. 3811: wavelengths are in nm here and in micrometres there.
+fn water_index(wavelength: f64) -> f64 {
+    let l2 = wavelength * wavelength * 1e-6;
+    (1.0 + 0.5684027565 * l2 / (l2 - 0.005101829712) + 0.1726177391 * l2 / (l2 - 0.01821153936)
+        + 0.02086189578 * l2 / (l2 - 0.02620722293)
+        + 0.1130748688 * l2 / (l2 - 10.69792721))
+        .sqrt()
 }
 
 fn print_path(p: &Path) {
@@ -144,19 +159,37 @@ fn brightest(surface: Surface, s: Spectra, wo: Vec3) {
     print_list("without it", &list);
 }
 
+/// Snell's law at a wall whose normal is along z, for light that goes from the glass to the water: the index times the
+/// sine of the angle is the same on both sides, but for rounding.
+fn snell(glass: &[f64], water: &[f64], wo: Vec3, wi: Vec3, wavelength: f64) {
+    let sine = |w: Vec3| (w.x * w.x + w.y * w.y).sqrt();
+    let (in_glass, in_water) = (sine(wo), sine(wi));
+    let (n_glass, n_water) = (lookup(glass, wavelength).value, lookup(water, wavelength).value);
+    let (a, b) = (n_glass * in_glass, n_water * in_water);
+    print!("Snell's law: in the glass {n_glass:.6} * {in_glass:.6} = {a:.6}, in the water {n_water:.6} * {in_water:.6} = {b:.6}");
+    println!(", equal but for rounding: {}", if (a - b).abs() < 1e-15 { "yes" } else { "no" });
+}
+
 fn main() {
     let table_of = |entries: usize, f: fn(f64) -> f64| -> Vec<f64> { (0..entries).map(|i| f(i as f64)).collect() };
     let table = |f: fn(f64) -> f64| table_of(SAMPLES, f);
     let glass_eta = table(|i| 1.53 - 0.0002 * i); // disperses a little
     let glass_k = table(|_| 0.0);
+    let air = table(|_| 1.0);
+    let water = table(|i| water_index(360.0 + 5.0 * i));
     let steel_eta = table(|i| 2.0 + 0.01 * i);
     let steel_k = table(|i| 3.0 + 0.01 * i);
     let fine_eta = table_of(FINE_SAMPLES, |i| 1.53 - 0.00004 * i); // the same glass, 1 nm apart
     let fine_k = table_of(FINE_SAMPLES, |_| 0.0);
-    let of_glass = Spectra { eta: &glass_eta, k: &glass_k };
-    let of_steel = Spectra { eta: &steel_eta, k: &steel_k };
-    let glass = make(GLASS, 0.0, of_glass);
-    let rough_glass = make(GLASS, 0.2, of_glass);
+    let fine_air = table_of(FINE_SAMPLES, |_| 1.0);
+    // outside the barrel is air, and inside it water: both walls are glass, with a normal that points out of it
+    let of_outer_wall = Spectra { eta: &glass_eta, k: &glass_k, outer: &air };
+    let of_inner_wall = Spectra { outer: &water, ..of_outer_wall };
+    let of_fine_wall = Spectra { eta: &fine_eta, k: &fine_k, outer: &fine_air };
+    // metal has no outer spectrum, so that none is lent
+    let of_steel = Spectra { eta: &steel_eta, k: &steel_k, outer: &[] };
+    let glass = make(GLASS, 0.0, of_outer_wall);
+    let rough_glass = make(GLASS, 0.2, of_outer_wall);
     let steel = make(METAL, 0.3, of_steel);
 
     let mut path = Path::default();
@@ -176,25 +209,43 @@ fn main() {
         ks: four(1.0, 1.0, 1.0, 1.0),
         tf: four(0.9, 0.9, 0.9, 0.9),
     };
-    let r = bounce(&mut path, glass, of_glass, barrel);
+    let r = bounce(&mut path, glass, of_outer_wall, barrel);
     print_bounce("glass barrel", r, &path);
 
-    // the needle: wo is where the light came from, so the direction turned round
-    let needle = BounceArgs { wo: v(-r.wi.x, -r.wi.y, -r.wi.z), ..barrel };
+    // from the glass into the water: wo is where the light came from, so the direction turned round. The surface is the
+    // same, and the water's index is lent in place of the air's
+    let inner_wall = BounceArgs { wo: turned(r.wi), normal: v(0.0, 0.0, -1.0), ..barrel };
+    let r = bounce(&mut path, glass, of_inner_wall, inner_wall);
+    print_bounce("inner wall, water", r, &path);
+    snell(&glass_eta, &water, inner_wall.wo, r.wi, path.lambda.s0);
+
+    // the needle
+    let needle = BounceArgs { wo: turned(r.wi), ..barrel };
     let r = bounce(&mut path, steel, of_steel, needle);
     print_bounce("needle steel", r, &path);
 
     // a direction of length 2 is refused, and the path is kept
-    let r = bounce(&mut path, steel, of_steel, BounceArgs { wo: v(0.0, 0.6, 2.0), ..barrel });
+    let too_long = v(0.0, 0.6, 2.0);
+    let r = bounce(&mut path, steel, of_steel, BounceArgs { wo: too_long, ..barrel });
     print_bounce("too long a direction", r, &path);
     println!("a start at 200 nm: {}", start(&mut path, four(200.0, 530.0, 610.0, 690.0)));
     print_path(&path);
 
     // the barrel's glass by a table at 1 nm: the surface is the same, the tables are lent
     start(&mut path, four(450.5, 530.5, 610.5, 690.5));
-    let r = bounce(&mut path, glass, Spectra { eta: &fine_eta, k: &fine_k }, barrel);
+    let r = bounce(&mut path, glass, of_fine_wall, barrel);
     print_bounce("glass barrel, 1 nm", r, &path);
-    println!("eta at 1 nm and k at 5 nm: {}", check_surface(glass, Spectra { eta: &fine_eta, k: &glass_k }));
+    print!("eta and k at 1 nm, water at 5 nm: {}", check_surface(glass, Spectra { outer: &water, ..of_fine_wall }));
+    println!("; eta at 1 nm, k at 5 nm: {}", check_surface(glass, Spectra { k: &glass_k, ..of_fine_wall }));
+
+    // glass is to have an outer spectrum, and 13 comes before the directions; metal has none
+    let nothing_outside = Spectra { outer: &[], ..of_outer_wall };
+    println!(
+        "no outer spectrum: glass {}, with too long a direction {}, steel {}",
+        check_surface(glass, nothing_outside),
+        lambda(glass, nothing_outside, too_long).number,
+        check_surface(steel, of_steel)
+    );
 
     // terms
     let (z, w) = (v(0.0, 0.0, 1.0), v(0.0, 0.6, 0.8));
@@ -223,6 +274,7 @@ fn main() {
     println!("steel as glass: {}", make_surface(GLASS, 0.3, of_steel).number);
 
     brightest(steel, of_steel, w);
-    many(rough_glass, of_glass);
+    many(rough_glass, of_outer_wall);
+    many(rough_glass, of_inner_wall);
     many(steel, of_steel);
 }

@@ -54,13 +54,21 @@ fn measure_of(one_direction: bool) -> Measure {
     Measure::PerSteradian
 }
 
-fn measure_on(surface: Surface, eta: &[f64], leading: f64) -> Measure {
+// Smooth facets send light into one direction whatever the index, which is then not read: that takes a pass
+// over the outer spectrum.
+fn measure_on(surface: Surface, eta: &[f64], k: &[f64], outer: &[f64], leading: f64) -> Measure {
     let roughness = surface.roughness;
     let facets = Ggx { roughness };
+    if facets.is_delta() {
+        return Measure::Probability;
+    }
     let kind = surface.kind;
     match kind {
-        Kind::Metal => measure_of(facets.is_delta()),
-        Kind::Glass => measure_of(dielectric::is_smooth(facets, microfacet::eta_at(eta, leading))),
+        Kind::Metal => Measure::PerSteradian,
+        Kind::Glass => {
+            let at = microfacet::optical_constants(kind, eta, k, outer, leading);
+            measure_of(dielectric::is_smooth(facets, at.eta))
+        }
     }
 }
 
@@ -169,22 +177,51 @@ fn k(text: &[u8], c: Cursor, values: &mut [f64]) -> EntriesRead {
     spectrum(text, c, b"k", Fault::K, values)
 }
 
-// How many entries a lone one stands for, beside a spectrum of `other` entries.
-fn samples_beside(other: usize) -> usize {
-    if other == DenseSpectrum::FINE_SAMPLES {
-        return DenseSpectrum::FINE_SAMPLES;
+// The outer spectrum, where the line has one: else a lone entry is counted, which is the 1.0 of air that
+// `values` begin with.
+fn outer(text: &[u8], c: Cursor, values: &mut [f64]) -> EntriesRead {
+    let named = line::optional(text, c, b"outer");
+    let next = named.next;
+    if named.value {
+        return line::entries(text, next, values);
+    }
+    EntriesRead { count: 1, next }
+}
+
+// How many entries of an outer spectrum there are to be: metal has none, whatever its line says.
+fn outer_count(kind: Kind, count: usize) -> usize {
+    match kind {
+        Kind::Metal => 0,
+        Kind::Glass => count,
+    }
+}
+
+fn is_table(count: usize) -> bool {
+    count == DenseSpectrum::SAMPLES || count == DenseSpectrum::FINE_SAMPLES
+}
+
+// How many entries a lone one stands for: as many as the first spectrum that is a table has, and where none
+// is, as many as lumo's.
+fn samples(eta: usize, k: usize, outer: usize) -> usize {
+    if is_table(eta) {
+        return eta;
+    }
+    if is_table(k) {
+        return k;
+    }
+    if is_table(outer) {
+        return outer;
     }
     DenseSpectrum::SAMPLES
 }
 
-// How many entries a spectrum has once a lone one stands at every wavelength: `count` were read of it, and
-// `other` of the other.
-fn spread(values: &mut [f64], count: usize, other: usize) -> usize {
+// The entries of a spectrum of which `count` were read; a lone one stands at every wavelength.
+fn spread(values: &mut [f64], count: usize, samples: usize) -> &[f64] {
     if count == 1 {
         store::fill(values);
-        return samples_beside(other);
+        return store::part(values, 0, samples);
     }
-    count
+    store::part(values, 0, count)
 }
 
 // A kind: whether it is glass.
@@ -206,6 +243,7 @@ fn made(
     answer: SurfaceAnswer,
     eta: &[f64],
     k: &[f64],
+    outer: &[f64],
     out: &mut [u8],
     n: usize,
 ) -> Answered {
@@ -213,13 +251,13 @@ fn made(
     match answer {
         SurfaceAnswer::Refused(why) => return refused(out, a, why),
         SurfaceAnswer::Given(surface) => {
-            store::keep_surface(surfaces, i, surface, eta, k);
+            store::keep_surface(surfaces, i, surface, eta, k, outer);
             return answers::done(out, a);
         }
     }
 }
 
-// surface INDEX KIND ROUGHNESS eta ENTRIES k ENTRIES
+// surface INDEX KIND ROUGHNESS eta ENTRIES k ENTRIES [outer ENTRIES]
 fn surface(text: &[u8], c: Cursor, surfaces: &mut [f64], out: &mut [u8], n: usize) -> Answered {
     let index = line::index(text, c, store::SURFACES, Fault::SurfaceIndex);
     let kind = glass(text, index.next);
@@ -228,16 +266,20 @@ fn surface(text: &[u8], c: Cursor, surfaces: &mut [f64], out: &mut [u8], n: usiz
     let eta = eta(text, roughness.next, &mut etas);
     let mut ks = [0.0; sizes::ENTRIES_READ];
     let k = k(text, eta.next, &mut ks);
-    let end = line::end(text, k.next);
+    let mut outers = [1.0; sizes::ENTRIES_READ];
+    let outer = outer(text, k.next, &mut outers);
+    let end = line::end(text, outer.next);
     if !end.ok {
         return fault(out, n, end);
     }
-    let eta_count = spread(&mut etas, eta.count, k.count);
-    let k_count = spread(&mut ks, k.count, eta.count);
-    let eta_part = store::part(&etas, 0, eta_count);
-    let k_part = store::part(&ks, 0, k_count);
-    let answer = counter::make_surface(kind_of(kind.value), roughness.value, eta_part, k_part);
-    made(surfaces, index.value, answer, eta_part, k_part, out, n)
+    let kind = kind_of(kind.value);
+    let outer_count = outer_count(kind, outer.count);
+    let samples = samples(eta.count, k.count, outer_count);
+    let eta = spread(&mut etas, eta.count, samples);
+    let k = spread(&mut ks, k.count, samples);
+    let outer = spread(&mut outers, outer_count, samples);
+    let answer = counter::make_surface(kind, roughness.value, eta, k, outer);
+    made(surfaces, index.value, answer, eta, k, outer, out, n)
 }
 
 // Keeps a path that was started.
@@ -297,11 +339,12 @@ fn bounce_held(
     surface: Surface,
     eta: &[f64],
     k: &[f64],
+    outer: &[f64],
     b: Bounce,
 ) -> Bounced
-    ensures { λ r. ⌜ (outcome r ≡ bounce (pathIn (now (paths .entry)) p) (microsurface surface (now (eta .entry)) (now (k .entry))) b) × (now (paths .exit) ≡ keepPath (now (paths .entry)) p (pathOf (outcome r))) ⌝ }
+    ensures { λ r. ⌜ (outcome r ≡ bounce (pathIn (now (paths .entry)) p) (microsurface surface (now (eta .entry)) (now (k .entry)) (now (outer .entry))) b) × (now (paths .exit) ≡ keepPath (now (paths .entry)) p (pathOf (outcome r))) ⌝ }
 {
-    let answer = bsdf::bounce(store::path(paths, p), surface, eta, k, b);
+    let answer = bsdf::bounce(store::path(paths, p), surface, eta, k, outer, b);
     store::keep_path(paths, p, answer.path());
     answer
 }
@@ -326,8 +369,10 @@ fn bounce_on(
     }
     let surface = store::surface(place);
     let eta = store::eta(place);
-    let answer = bounce_held(paths, p, surface, eta, store::k(place), b);
-    let measure = measure_on(surface, eta, before.lambda.s0);
+    let k = store::k(place);
+    let outer = store::outer(place);
+    let answer = bounce_held(paths, p, surface, eta, k, outer, b);
+    let measure = measure_on(surface, eta, k, outer, before.lambda.s0);
     bounced(out, n, p, answer, measure)
 }
 
@@ -387,9 +432,25 @@ fn density_on(
     let surface = store::surface(place);
     let eta = store::eta(place);
     let k = store::k(place);
+    let outer = store::outer(place);
     let lambda = store::at(w, 6);
-    let answer = counter::pdf(surface, eta, k, vec3(w, 0), vec3(w, 3), reflection, lambda);
-    density_given(out, n, s, answer, measure_on(surface, eta, lambda))
+    let answer = counter::pdf(
+        surface,
+        eta,
+        k,
+        outer,
+        vec3(w, 0),
+        vec3(w, 3),
+        reflection,
+        lambda,
+    );
+    density_given(
+        out,
+        n,
+        s,
+        answer,
+        measure_on(surface, eta, k, outer, lambda),
+    )
 }
 
 // density SURFACE REFLECTION WO*3 WI*3 LAMBDA

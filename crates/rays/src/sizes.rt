@@ -19,14 +19,16 @@ pub const PATH: usize = 2 * COLOR;
 // The most entries that a spectrum has.
 pub const ENTRIES: usize = DenseSpectrum::FINE_SAMPLES;
 
-// A surface's numbers: roughness x and y, the kind, how many entries each spectrum has, and room for eta
-// and k.
-pub const SURFACE: usize = ETA + 2 * ENTRIES;
+// A surface's numbers: roughness x and y, the kind, how many entries each spectrum has, and room for eta,
+// k and the outer spectrum.
+pub const SURFACE: usize = ETA + 3 * ENTRIES;
 
-// Where a surface's eta and k begin.
+// Where each of a surface's spectra begins.
 pub const ETA: usize = 4;
 
 pub const K: usize = ETA + ENTRIES;
+
+pub const OUTER: usize = K + ENTRIES;
 
 // The entries of a spectrum that are kept of a line: one more than the most, so that a list that is too
 // long is still too long.

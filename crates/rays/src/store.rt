@@ -1,6 +1,6 @@
 // The surfaces and the paths that a job holds, in flat arrays that `main` lends.
 //
-//   surface i   sizes::SURFACE numbers: roughness x and y, the kind, the number of entries, eta, k
+//   surface i   sizes::SURFACE numbers: roughness x and y, the kind, the number of entries, eta, k, outer
 //   path i      sizes::PATH numbers: wavelengths and powers
 //
 // Zeros are a surface that was not made, whose roughness is never 0, and a path that was not started,
@@ -114,7 +114,7 @@ pub fn part(values: &[f64], a: usize, b: usize) -> &[f64] {
 }
 
 fn surface_place(i: u64) -> u32
-    ensures { λ r. ⌜ r ≤ 65536 ⌝ }
+    ensures { λ r. ⌜ r ≤ 131072 ⌝ }
 {
     (i % SURFACES) as u32 * sizes::SURFACE as u32
 }
@@ -138,8 +138,8 @@ fn kind_number(kind: Kind) -> f64 {
     patterns::of_bits(kind.code())
 }
 
-// How many entries each spectrum has is kept as the number whose bits it is. One count serves both: a k that
-// is accepted has as many as eta.
+// How many entries each spectrum has is kept as the number whose bits it is. One count serves all: a k that is
+// accepted has as many as eta, and so has glass's outer spectrum.
 fn count_of(number: f64) -> u32 {
     (patterns::bits(number) % sizes::SURFACE as u64) as u32
 }
@@ -163,6 +163,11 @@ pub fn k(place: &[f64]) -> &[f64] {
     spectrum(place, sizes::K as u32)
 }
 
+// On metal, which has no outer spectrum, whatever stands there: the model doesn't read it.
+pub fn outer(place: &[f64]) -> &[f64] {
+    spectrum(place, sizes::OUTER as u32)
+}
+
 // The surface, without its spectra.
 pub fn surface(place: &[f64]) -> Surface {
     Surface {
@@ -183,7 +188,14 @@ fn with_room(spectrum: &[f64]) -> &[f64] {
 }
 
 // Keeps a surface with its spectra; whatever it is handed, no other surface is written to.
-pub fn keep_surface(surfaces: &mut [f64], i: u64, surface: Surface, eta: &[f64], k: &[f64]) {
+pub fn keep_surface(
+    surfaces: &mut [f64],
+    i: u64,
+    surface: Surface,
+    eta: &[f64],
+    k: &[f64],
+    outer: &[f64],
+) {
     let from = surface_place(i);
     let kind = surface.kind;
     let head = [
@@ -195,6 +207,7 @@ pub fn keep_surface(surfaces: &mut [f64], i: u64, surface: Surface, eta: &[f64],
     put(surfaces, from, &head);
     put(surfaces, from + sizes::ETA as u32, with_room(eta));
     put(surfaces, from + sizes::K as u32, with_room(k));
+    put(surfaces, from + sizes::OUTER as u32, with_room(outer));
 }
 
 // One number for every entry.

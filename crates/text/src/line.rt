@@ -207,7 +207,28 @@ pub fn numbers(text: &[u8], c: Cursor, values: &mut [f64]) -> Cursor {
     now
 }
 
-// Whether a spectrum ends here: at the line's end, or before a word of one letter.
+// Past the word `name` where it is the next one; whether it is.
+pub fn optional(text: &[u8], c: Cursor, name: &[u8]) -> FlagRead {
+    if !c.ok {
+        return FlagRead {
+            value: false,
+            next: c,
+        };
+    }
+    let b = begin(text, c);
+    if same(word(text, b), name) {
+        return FlagRead {
+            value: true,
+            next: behind_word(text, b),
+        };
+    }
+    FlagRead {
+        value: false,
+        next: c,
+    }
+}
+
+// Whether a spectrum ends here: at the line's end, before a word of one letter, or before the word `outer`.
 fn entries_end(text: &[u8], c: Cursor) -> bool {
     if !c.ok {
         return true;
@@ -217,7 +238,8 @@ fn entries_end(text: &[u8], c: Cursor) -> bool {
     if text.len() <= from {
         return true;
     }
-    word(text, b).len() < 2
+    let next = word(text, b);
+    next.len() < 2 || same(next, b"outer")
 }
 
 // Keeps a value at the place `n`, if there is one; answers how many are kept then.
