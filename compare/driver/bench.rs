@@ -5,7 +5,7 @@ use super::inputs::{subnormal, Rng};
 use super::library::{run_bounces, Lent};
 use super::numbers::{basis_calls, root_calls, BasisCalls, RootCall};
 use super::optics::{of_surface_calls, OfSurface};
-use super::path::{plain, plain_many, surfaces_of, usual_bounce, usual_path, usual_surface, words_in, Bounce, Bounced, Path, INS, OUTS};
+use super::path::{plain, plain_many, surfaces_of, usual_bounce, usual_path, usual_surface, words_in, Bounce, Bounced, Outside, Path, INS, OUTS};
 use super::rulvimba::{Candidate, Candidates};
 use super::surfaces::Surface;
 use super::Function;
@@ -222,36 +222,43 @@ fn bench_bounces(rng: &mut Rng) {
         let (a, b) = least(rng, two, |d| of_surface(d, &s, here), |d| of_surface(d, &s, rust));
         line(name, a, b);
     }
-    println!("a whole checked bounce; in Rust 471 entries are read by the second reading");
+    println!("a whole checked bounce; in Rust 471 entries, and glass that is not in air, are read by the second reading");
     let one = |rng: &mut Rng| {
         let (path, bounce) = (usual_path(rng), usual_bounce(rng));
         One { here: Lent::new(&path, &bounce), path, bounce }
     };
-    for (name, glass, rough, varying) in [
-        ("rough metal", false, true, true),
-        ("delta metal", false, false, true),
-        ("rough glass, constant eta", true, true, false),
-        ("rough glass, varying eta", true, true, true),
-        ("delta glass, constant eta", true, false, false),
-        ("delta glass, varying eta", true, false, true),
+    use Outside::{Air, Constant, Water};
+    for (name, glass, rough, varying, outside) in [
+        ("rough metal", false, true, true, Air),
+        ("delta metal", false, false, true, Air),
+        ("rough glass, constant eta", true, true, false, Air),
+        ("rough glass, varying eta", true, true, true, Air),
+        ("delta glass, constant eta", true, false, false, Air),
+        ("delta glass, varying eta", true, false, true, Air),
+        ("rough glass, both constant", true, true, false, Constant),
+        ("rough glass, both varying", true, true, true, Water),
+        ("delta glass, both varying", true, false, true, Water),
     ] {
-        let [s, fine] = &surfaces_of(rng, glass, rough, varying, !glass);
+        let [s, fine] = &surfaces_of(rng, glass, rough, varying, !glass, outside);
         let times: [&dyn Fn(&[One]) -> f64; 4] =
             [&|d| bounces(d, s), &|d| bounces_in_rust(d, s), &|d| bounces(d, fine), &|d| bounces_in_rust(d, fine)];
         lines(name, least_of(rng, one, times));
     }
     println!("each of many bounces in one call, the surface checked once on both sides");
     let row = |rng: &mut Rng| words_in(&usual_path(rng), &usual_bounce(rng));
-    for (name, glass, rough, varying, absorbs) in [
-        ("rough metal", false, true, true, true),
-        ("rough metal, k 0", false, true, true, false),
-        ("delta metal", false, false, true, true),
-        ("rough glass, constant eta", true, true, false, false),
-        ("rough glass, varying eta", true, true, true, false),
-        ("delta glass, constant eta", true, false, false, false),
-        ("delta glass, varying eta", true, false, true, false),
+    for (name, glass, rough, varying, absorbs, outside) in [
+        ("rough metal", false, true, true, true, Air),
+        ("rough metal, k 0", false, true, true, false, Air),
+        ("delta metal", false, false, true, true, Air),
+        ("rough glass, constant eta", true, true, false, false, Air),
+        ("rough glass, varying eta", true, true, true, false, Air),
+        ("delta glass, constant eta", true, false, false, false, Air),
+        ("delta glass, varying eta", true, false, true, false, Air),
+        ("rough glass, both constant", true, true, false, false, Constant),
+        ("rough glass, both varying", true, true, true, false, Water),
+        ("delta glass, both varying", true, false, true, false, Water),
     ] {
-        let [s, fine] = &surfaces_of(rng, glass, rough, varying, absorbs);
+        let [s, fine] = &surfaces_of(rng, glass, rough, varying, absorbs, outside);
         [s, fine].map(|s| assert_same(rng, row, s));
         let (a, b) = least(rng, row, |d| many(d, s, SIZE, run_bounces), |d| many(d, s, SIZE, plain_many));
         line(&format!("{SIZE}, {name}, 95 entries"), a, b);
@@ -373,7 +380,7 @@ pub fn bench(seed: u64, functions: &[Function]) {
     line("basis: Onb::new, then to_local", a, b);
     for f in functions {
         if let Some((a, b)) = f.times(seed, PASSES, SIZE) {
-            line(&f.entries.map_or(f.name.into(), |n| format!("{}, {n} entries", f.name)), a, b);
+            line(&f.tables.map_or(f.name.into(), |t| format!("{}, {} entries", f.name, t.entries)), a, b);
         }
     }
     bench_bounces(&mut rng);

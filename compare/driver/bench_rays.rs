@@ -283,7 +283,7 @@ fn bench_memory(seed: u64) -> bool {
             same &= outputs[0].iter().zip(&outputs[1]).all(|(x, y)| bits(*x) == bits(*y));
         }
     }
-    let names = ["rim, rough glass, varying eta", "needle, rough metal", "inner wall, delta glass, constant eta"];
+    let names = ["rim, rough glass, varying eta", "needle, rough metal", "inner wall, delta glass against water"];
     let line = |name: &str, [a, b]: [f64; 2]| println!("  {name:<34} {:>12.0} {:>12.0} {:>6.2}", 1e9 / a, 1e9 / b, a / b);
     for (name, times) in names.iter().zip(least) {
         line(name, times);

@@ -1,8 +1,7 @@
 //! A function of ours beside the Rust's: words in, words out, compared in bits.
 use super::inputs::{Inputs, Rng, Slot};
-use super::judge;
+use super::judge::{self, Tables};
 pub use super::rulvimba::Answer;
-use super::spectra::FINE_SAMPLES;
 use crate::{Vec2, Vec3};
 use std::cell::Cell;
 pub use std::hint::black_box;
@@ -134,8 +133,8 @@ pub struct Function {
     pub name: &'static str,
     /// The record's number in the sample.
     pub number: u32,
-    /// How many entries its spectra have, where it takes any: it settles who judges.
-    pub entries: Option<usize>,
+    /// The spectra of its inputs, where it takes any: they settle who judges.
+    pub tables: Option<Tables>,
     pub shape: Vec<Slot>,
     pub outs: usize,
     pub here: Call,
@@ -176,7 +175,7 @@ impl Function {
         Self {
             name,
             number,
-            entries: None,
+            tables: None,
             shape: vec![],
             outs,
             here,
@@ -197,7 +196,7 @@ impl Function {
 
     /// Otherwise the second reading judges.
     pub fn is_judged_by_rust(&self) -> bool {
-        self.entries != Some(FINE_SAMPLES)
+        self.tables.is_none_or(Tables::are_judged_by_rust)
     }
 
     fn inputs(&self, seed: u64, count: usize) -> Inputs {
@@ -241,7 +240,7 @@ impl Function {
             }
         }
         let left_open = if open > 0 { format!(", {open} zeros whose sign Rust leaves open") } else { String::new() };
-        println!("{:<44} {count:>9} inputs {differences:>6} differences from {}{left_open}", self.name, judge::name(self.entries));
+        println!("{:<44} {count:>9} inputs {differences:>6} differences from {}{left_open}", self.name, judge::name(self.tables));
         differences
     }
 

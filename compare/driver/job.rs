@@ -3,8 +3,8 @@
 use super::harness::bits;
 use super::optics::{density, make_surface, Color, Fields};
 use super::path::{plain, rust, rust_start, Bounce, Bounced, Lumo, Path, LOST, REFLECTED, REFUSED};
-use super::spectra::{FINE_SAMPLES, SAMPLES};
-use super::surfaces::Surface;
+use super::spectra::SAMPLES;
+use super::surfaces::{is_length, Surface};
 use crate::{Vec2, Vec3};
 use std::io::{self, BufRead, BufReader, BufWriter, Read, Write};
 
@@ -20,6 +20,7 @@ const SURFACES: usize = 64;
 const PATHS: usize = 1024;
 const CANDIDATES: usize = 64;
 const LINE_MAX: usize = 32768;
+const OUTER: &[u8] = b"outer";
 
 /// What is wrong with a number.
 const NUMBER: &str =
@@ -164,13 +165,22 @@ impl<'a> Line<'a> {
         Ok(Vec3::new(x, y, z))
     }
 
-    /// The entries of a spectrum, which ends before a word of one letter.
+    /// The entries of a spectrum, which ends before a word of one letter and before the word `outer`.
     fn entries(&mut self) -> Reading<Vec<f64>> {
         let mut all = vec![];
-        while self.peek().is_some_and(|word| word.len() > 1) {
+        while self.peek().is_some_and(|word| word.len() > 1 && word != OUTER) {
             all.push(self.number()?);
         }
         Ok(all)
+    }
+
+    /// Those of the outer spectrum, which is air's where the line has none.
+    fn outer(&mut self) -> Reading<Vec<f64>> {
+        if self.peek() != Some(OUTER) {
+            return Ok(vec![1.0]);
+        }
+        self.word()?;
+        self.entries()
     }
 
     fn end(&mut self) -> Reading<()> {
@@ -320,11 +330,15 @@ impl Held {
         let eta = line.entries()?;
         line.keyword(b"k", "the word k is missing")?;
         let k = line.entries()?;
+        let outer = line.outer()?;
         line.end()?;
-        let (eta, k) = (spread(&eta, &k), spread(&k, &eta));
-        let made = make_surface(&Fields { kind: glass as u64, a: Vec2::splat(roughness), eta: &eta, k: &k });
+        // metal has none, whatever its line says
+        let outer = if glass { outer } else { vec![] };
+        let n = spacing(&[&eta, &k, &outer]);
+        let [eta, k, outer] = [eta, k, outer].map(|entries| spread(entries, n));
+        let made = make_surface(&Fields { kind: glass as u64, a: Vec2::splat(roughness), eta: &eta, k: &k, outer: &outer });
         if made.number == 0 {
-            self.surfaces[i] = Some(Lumo::new(glass, made.value, &eta, &k));
+            self.surfaces[i] = Some(Lumo::new(glass, made.value, &eta, &k, &outer));
         }
         Ok(write!(out, " surface {i}").and_then(|_| ok_or_refused(out, made.number)))
     }
@@ -414,12 +428,16 @@ impl Held {
     }
 }
 
-/// A spectrum's entries; a lone one counts as 471 beside 471 entries, and else as 95.
-fn spread(entries: &[f64], other: &[f64]) -> Vec<f64> {
-    match entries {
-        [lone] if other.len() == FINE_SAMPLES => vec![*lone; FINE_SAMPLES],
-        [lone] => vec![*lone; SAMPLES],
-        _ => entries.to_vec(),
+/// How many entries a lone one counts as: as many as the first of the spectra that is a table, and else 95.
+fn spacing(spectra: &[&[f64]]) -> usize {
+    spectra.iter().map(|s| s.len()).find(|n| is_length(*n)).unwrap_or(SAMPLES)
+}
+
+/// A spectrum's entries, where a lone one counts as `n`.
+fn spread(entries: Vec<f64>, n: usize) -> Vec<f64> {
+    match entries[..] {
+        [lone] => vec![lone; n],
+        _ => entries,
     }
 }
 

@@ -1,5 +1,5 @@
-//! Who judges: lumo's own functions over the 95 entries that it has, and over 471 the same functions on what the second
-//! reading gives.
+//! Who judges: lumo's own functions over the 95 entries that it has, where glass lies in air, and else the same functions
+//! on what the second reading gives.
 //!
 //! lumo reads a spectrum through its value at a wavelength and through whether it is constant, and in no other way. So
 //! where it can't hold a spectrum it is lent a surface that has those values at 360 nm, a grid point, where its lookup
@@ -13,13 +13,43 @@ use crate::tracer::microfacet::MfDistribution;
 use crate::tracer::{ColorWavelength, DenseSpectrum};
 use crate::{Vec2, Vec3};
 
-/// The words of an output's line for spectra of so many entries.
-pub fn name(entries: Option<usize>) -> &'static str {
-    match entries {
-        None => "the Rust",
-        Some(SAMPLES) => "the Rust, 95 entries",
-        Some(_) => "the second reading, 471 entries",
+/// Of which spectra inputs are: how many entries they have, and whether an outer spectrum is another than ones.
+#[derive(Clone, Copy, PartialEq)]
+pub struct Tables {
+    pub entries: usize,
+    pub outer: bool,
+}
+
+impl Tables {
+    /// With an outer spectrum of ones.
+    pub const fn in_air(entries: usize) -> Self {
+        Self { entries, outer: false }
     }
+
+    /// With any outer spectra.
+    pub const fn any_outer(entries: usize) -> Self {
+        Self { entries, outer: true }
+    }
+
+    /// Otherwise the second reading judges; with any outer spectra it judges glass.
+    pub fn are_judged_by_rust(self) -> bool {
+        self == Self::in_air(SAMPLES)
+    }
+
+    /// The words of an output's line for them.
+    pub fn judge(self) -> &'static str {
+        match (self.entries, self.outer) {
+            (SAMPLES, false) => "the Rust, 95 entries",
+            (_, false) => "the second reading, 471 entries",
+            (SAMPLES, true) => "the second reading, outer spectra, 95 entries",
+            (_, true) => "the second reading, outer spectra, 471 entries",
+        }
+    }
+}
+
+/// The same where a function may take none.
+pub fn name(tables: Option<Tables>) -> &'static str {
+    tables.map_or("the Rust", Tables::judge)
 }
 
 // ---- a spectrum
@@ -59,8 +89,10 @@ pub trait Judge {
     /// For the functions that read no spectrum.
     fn facets(&self) -> &MfDistribution;
 
+    /// Whether eta counts as constant.
     fn constant_eta(&self) -> bool;
 
+    /// The index: of glass, against what lies outside.
     fn eta_at(&self, wl: f64) -> f64;
 
     fn f_at(&self, wo: Vec3, wh: Vec3, wl: f64) -> f64;
@@ -79,7 +111,7 @@ pub trait Judge {
     }
 }
 
-/// The Rust, which looks its 95 entries up itself.
+/// The Rust, which looks its 95 entries up itself; its glass lies in air.
 impl Judge for BxDF {
     fn glass(&self) -> bool {
         matches!(self, BxDF::MfDielectric(_))
@@ -121,10 +153,12 @@ impl Judge for BxDF {
 
 /// A surface whose spectra the second reading looks up.
 pub struct Reading<'a> {
-    pub glass: bool,
-    pub a: Vec2,
-    pub eta: &'a [f64],
-    pub k: &'a [f64],
+    glass: bool,
+    a: Vec2,
+    eta: &'a [f64],
+    k: &'a [f64],
+    /// The outer spectrum and whether it is constant, of glass alone.
+    outer: Option<(&'a [f64], bool)>,
 }
 
 /// lumo's spectrum with a value at 360 nm, constant or not.
@@ -136,7 +170,12 @@ fn at_360(x: f64, constant: bool) -> DenseSpectrum {
     DenseSpectrum::new(values)
 }
 
-impl Reading<'_> {
+impl<'a> Reading<'a> {
+    #[inline]
+    pub fn new(glass: bool, a: Vec2, eta: &'a [f64], k: &'a [f64], outer: &'a [f64]) -> Self {
+        Self { glass, a, eta, k, outer: glass.then(|| (outer, reading::is_constant(outer))) }
+    }
+
     #[inline]
     fn k_at(&self, wl: f64) -> f64 {
         reading::sample_one(self.k, reading::step(self.k), wl)
@@ -168,12 +207,15 @@ impl Judge for Reading<'_> {
     }
 
     fn constant_eta(&self) -> bool {
-        reading::is_constant(self.eta)
+        reading::is_constant(self.eta) && self.outer.is_none_or(|(_, constant)| constant)
     }
 
     #[inline]
     fn eta_at(&self, wl: f64) -> f64 {
-        reading::sample_one(self.eta, reading::step(self.eta), wl)
+        match self.outer {
+            Some((outer, constant)) => reading::index(self.eta, outer, constant, wl),
+            None => reading::sample_one(self.eta, reading::step(self.eta), wl),
+        }
     }
 
     #[inline]

@@ -8,6 +8,7 @@
 use super::candidates;
 use super::harness::*;
 use super::inputs::{Rng, Slot};
+use super::judge::Tables;
 use super::lengths;
 use super::optics::{other_kind, Color};
 use super::path::{report, rust_start, start_input, walk, words_in, Bounce, Bounced, Density, Lumo, Path, Shares, Subject, INS, OUTS};
@@ -112,7 +113,7 @@ pub fn surface(kind: u64, a: Vec2) -> rulvimba::Surface {
 }
 
 fn spectra(s: &Surface) -> Spectra<'_> {
-    Spectra { eta: &s.eta, k: &s.k }
+    Spectra { eta: &s.eta, k: &s.k, outer: &s.outer }
 }
 
 // ---- a bounce on a path in memory
@@ -157,12 +158,15 @@ fn on_path(name: &str, call: OnPath, aside: &mut usize, kind: u64, s: &Surface, 
 }
 
 extern "C" {
-    fn path_bounce_on(path: *mut rulvimba::Path, surface: rulvimba::Surface, eta: *const f64, n: usize, k: *const f64, m: usize, b: BounceArgs) -> BounceResult;
+    fn path_bounce_on(
+        path: *mut rulvimba::Path, surface: rulvimba::Surface, eta: *const f64, n: usize, k: *const f64, m: usize, outer: *const f64, l: usize,
+        b: BounceArgs,
+    ) -> BounceResult;
 }
 
 /// path's thin form.
 pub fn thin(p: &mut rulvimba::Path, s: rulvimba::Surface, of: Spectra, b: BounceArgs) -> BounceResult {
-    unsafe { path_bounce_on(p, s, of.eta.as_ptr(), of.eta.len(), of.k.as_ptr(), of.k.len(), b) }
+    unsafe { path_bounce_on(p, s, of.eta.as_ptr(), of.eta.len(), of.k.as_ptr(), of.k.len(), of.outer.as_ptr(), of.outer.len(), b) }
 }
 
 /// How often memory was not as it must be.
@@ -269,7 +273,7 @@ impl Many<'_> {
         let changed = input.iter().zip(&kept).any(|(x, y)| x.to_bits() != y.to_bits());
         if let (true, Some((o, row))) = (print, wrong.first()) {
             println!("  rulvimba_bounces, kind {}, roughness {}", of.kind, hex_floats(&[of.roughness.x, of.roughness.y]));
-            println!("    eta {}\n    k   {}", hex_floats(spectra.eta), hex_floats(spectra.k));
+            println!("    eta {}\n    k   {}\n    outer {}", hex_floats(spectra.eta), hex_floats(spectra.k), hex_floats(spectra.outer));
             println!("    in  {}\n    here  {}\n    judge {}", hex_floats(&row.input), hex_floats(o), hex_floats(&row.output));
         }
         if print && (n != self.count() || past || changed) {
@@ -370,26 +374,26 @@ impl Subject for Library {
     }
 }
 
-pub fn compare_thin(seed: u64, n: usize, count: usize) -> usize {
+pub fn compare_thin(seed: u64, tables: Tables, count: usize) -> usize {
     let mut thin = Thin(0);
-    let c = walk(seed, n, count, &mut thin);
-    c.print(Thin::NAME);
+    let c = walk(seed, tables, count, &mut thin);
+    c.print(Thin::NAME, tables);
     println!("  differences in memory {}", thin.0);
-    c.differences + thin.0
+    c.faults() + thin.0
 }
 
-/// How many bounces were run on surfaces of `n` entries, and the differences.
-pub fn compare_bounces(seed: u64, n: usize, count: usize) -> (usize, usize) {
+/// How many bounces were run on surfaces of such spectra, and the differences.
+pub fn compare_bounces(seed: u64, tables: Tables, count: usize) -> (usize, usize) {
     let mut library = Library::new(seed);
-    let c = walk(seed, n, count, &mut library);
-    c.print(Library::NAME);
+    let c = walk(seed, tables, count, &mut library);
+    c.print(Library::NAME, tables);
     println!("  on kinds that are neither metal nor glass {}; differences there and in memory that must be kept {}", library.other_kinds, library.aside);
     println!(
         "{:<44} {:>9} bounces {:>5} differences from {}, in {} calls",
-        "rulvimba_bounces", library.many, library.many_differences, c.judges(), library.calls
+        "rulvimba_bounces", library.many, library.many_differences, c.judges(tables), library.calls
     );
-    let run = if n == FINE_SAMPLES { c.fine } else { c.bounces };
-    (run, c.differences + library.aside + library.many_differences)
+    let run = if tables.entries == FINE_SAMPLES { c.fine } else { c.bounces };
+    (run, c.faults() + library.aside + library.many_differences)
 }
 
 // ---- starts
@@ -420,8 +424,9 @@ pub fn compare_starts(seed: u64, count: usize) -> usize {
 
 // ---- all of it
 
-/// `bounces` bounces through both calls on 95 entries and as many calls on lists of candidates, and a tenth as many on 471
-/// entries and for each of the other calls; answers the number of differences.
+/// `bounces` bounces in air through both calls on 95 entries, as many with outer spectra, half of them on 471 entries, and
+/// as many calls on lists of candidates; a tenth as many in air on 471 entries and for each of the other calls. Answers the
+/// number of differences.
 pub fn compare(seed: u64, bounces: usize) -> usize {
     let each = bounces / 10;
     let mut others = each;
@@ -433,11 +438,20 @@ pub fn compare(seed: u64, bounces: usize) -> usize {
     differences += compare_starts(seed, each);
     differences += lengths::compare();
     let (listed, of_lists) = candidates::compare(seed, bounces, each);
-    let (run, of_bounces) = compare_bounces(seed, SAMPLES, bounces);
-    let (run_fine, of_fine) = compare_bounces(seed, FINE_SAMPLES, each);
-    differences += of_lists + of_bounces + of_fine;
+    differences += of_lists;
+    let mut run = |tables, count| {
+        let (run, of_bounces) = compare_bounces(seed, tables, count);
+        differences += of_bounces;
+        run
+    };
+    let in_air = [run(Tables::in_air(SAMPLES), bounces), run(Tables::in_air(FINE_SAMPLES), each)];
+    let outer = [run(Tables::any_outer(SAMPLES), bounces / 2), run(Tables::any_outer(FINE_SAMPLES), bounces / 2)];
     println!(
-        "compare: librulvimba: {run} bounces on 95 entries, {run_fine} on 471, {listed} calls on lists of candidates, {others} other calls, {differences} differences, seed {seed}"
+        "compare: librulvimba: {} bounces on 95 entries, {} on 471, {} and {} with outer spectra, {listed} calls on lists of candidates, {others} other calls, {differences} differences, seed {seed}",
+        in_air[0],
+        in_air[1],
+        outer[0],
+        outer[1]
     );
     differences
 }

@@ -1,4 +1,5 @@
-//! Compares the Rattle crates with lumo's Rust, function by function, and at 471 entries with a second reading.
+//! Compares the Rattle crates with lumo's Rust, function by function, and at 471 entries and not in air with a second
+//! reading.
 //!
 //! With no words, a million inputs for each function and ten million roots. A number: so many. --gate: fewer, for a gate.
 //! --seed N: other inputs. --library: the static library alone, ten million bounces and calls on lists, or as many as a number says.
@@ -16,6 +17,7 @@ mod lengths;
 mod library;
 mod numbers;
 mod optics;
+mod outer;
 mod path;
 mod reading;
 mod root;
@@ -25,6 +27,7 @@ mod spectra;
 mod surfaces;
 
 use harness::Function;
+use judge::Tables;
 use spectra::{FINE_SAMPLES, SAMPLES};
 
 /// A family of functions is a file of this driver.
@@ -34,7 +37,9 @@ fn families() -> Vec<Function> {
     all
 }
 
-fn compare(seed: u64, count: usize) -> usize {
+/// `count` inputs for each function; of bounces five times as many in air on 95 entries and as many on 471, and with outer
+/// spectra five times as many on 95 and `fine_outer` on 471.
+fn compare(seed: u64, count: usize, fine_outer: usize) -> usize {
     let mut differences = numbers::reading_beside_rust().compare(seed, count);
     for f in families() {
         differences += f.compare(seed, count);
@@ -42,9 +47,14 @@ fn compare(seed: u64, count: usize) -> usize {
     differences += lengths::compare();
     differences += library::compare_starts(seed, count);
     differences += candidates::compare(seed, count, count).1;
-    for (entries, bounces) in [(SAMPLES, count * 5), (FINE_SAMPLES, count)] {
-        differences += library::compare_bounces(seed, entries, bounces).1;
-        differences += library::compare_thin(seed, entries, bounces);
+    for (tables, through_library, thin) in [
+        (Tables::in_air(SAMPLES), count * 5, count * 5),
+        (Tables::in_air(FINE_SAMPLES), count, count),
+        (Tables::any_outer(SAMPLES), count * 5, count),
+        (Tables::any_outer(FINE_SAMPLES), fine_outer, count),
+    ] {
+        differences += library::compare_bounces(seed, tables, through_library).1;
+        differences += library::compare_thin(seed, tables, thin);
     }
     differences + root::compare(seed, (count * 10).max(1_000_000))
 }
@@ -55,6 +65,7 @@ fn sample(seed: u64, folder: &str) {
         ("replay/data/numbers.hex", numbers::sample(seed)),
         ("replay/data/optics.hex", optics::sample(seed)),
         ("replay/data/path.hex", path::sample(seed)),
+        ("replay/data/outer.hex", outer::sample(seed)),
         ("replay_candidates/data/candidates.hex", candidates::sample(seed)),
     ];
     for (name, records) in files {
@@ -85,9 +96,10 @@ pub fn main() {
     let differences = if of_library {
         library::compare(seed, count.unwrap_or(10_000_000))
     } else if gate {
-        compare(seed, 50_000) + job::compare_example()
+        compare(seed, 50_000, 50_000) + job::compare_example()
     } else {
-        compare(seed, count.unwrap_or(1_000_000))
+        let count = count.unwrap_or(1_000_000);
+        compare(seed, count, count * 5)
     };
     if differences > 0 {
         println!("compare: {differences} differences");

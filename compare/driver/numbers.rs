@@ -1,7 +1,7 @@
 //! The crates `floats` and `numbers` beside lumo's floats, vectors, complex numbers, bases and angles.
 use super::harness::*;
 use super::inputs::{Rng, Slot};
-use super::judge::{self, spectrum};
+use super::judge::{self, spectrum, Tables};
 use super::reading;
 use super::root::numbers_sqrt_by_digits;
 use super::rulvimba;
@@ -360,7 +360,7 @@ fn of_entries<const N: usize>(
         Box::new(move |w, out| f(&w[1..1 + w[0] as usize], &w[behind(N)..]).put(out))
     }
     Function {
-        entries: Some(N),
+        tables: Some(Tables::in_air(N)),
         shape: vec![Slot::Float; behind(N) + 2],
         source: Some(entries_source::<N>),
         ..Function::new(name, number, 1, call::<N>(here), call::<N>(rust))
@@ -370,7 +370,7 @@ fn of_entries<const N: usize>(
 /// The second reading at 95 entries, where the Rust can judge it.
 pub fn reading_beside_rust() -> Function {
     Function {
-        entries: Some(SAMPLES),
+        tables: Some(Tables::in_air(SAMPLES)),
         shape: vec![Slot::Float; SAMPLES + 1],
         source: Some(lookup_source::<SAMPLES>),
         ..Function::new(
@@ -394,7 +394,7 @@ pub fn reading_beside_rust() -> Function {
 /// The functions of tables of `N` entries.
 fn spectrum_functions<const N: usize>() -> Vec<Function> {
     let lookup = Function {
-        entries: Some(N),
+        tables: Some(Tables::in_air(N)),
         shape: vec![Slot::Float; N + 1],
         source: Some(lookup_source::<N>),
         time_here: Some(Box::new(|data| {
@@ -412,7 +412,7 @@ fn spectrum_functions<const N: usize>() -> Vec<Function> {
         )
     };
     let checked_lookup = Function {
-        entries: Some(N),
+        tables: Some(Tables::in_air(N)),
         shape: vec![Slot::Float; behind(N) + 2],
         source: Some(checked_lookup_source::<N>),
         ..Function::new(

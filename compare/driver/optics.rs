@@ -2,7 +2,7 @@
 //! librulvimba has go through it.
 use super::harness::*;
 use super::inputs::{Rng, Slot};
-use super::judge::{self, leading, Judge, Reading};
+use super::judge::{self, leading, Judge, Reading, Tables};
 use super::library::surface;
 use super::numbers::record;
 use super::rulvimba::{self, Spectra, DIRECTION, GLASS, NONE};
@@ -121,6 +121,11 @@ fn rust_dielectric_sample(a: Vec2, eta: f64, k: f64, wo: Vec3, u: f64, disk: f64
 
 fn rust_pdf(s: rulvimba::Surface, wo: Vec3, wi: Vec3, reflection: bool, eta: f64, k: f64) -> f64 {
     lent_surface(s.kind == GLASS, Vec2::new(s.roughness.x, s.roughness.y), eta, k).pdf(wo, wi, reflection, &leading())
+}
+
+/// lumo's Fresnel term of an index, head on.
+pub fn fresnel_of(index: f64) -> u64 {
+    bits(lent(Vec2::splat(1.0), index, 0.0).f_at(Vec3::Z, Vec3::Z, 360.0))
 }
 
 /// g over g1 by document 01's weight: 0 where g1 is 0.
@@ -326,18 +331,21 @@ fn usual_parts(parts: &[Part], rng: &mut Rng, w: &mut [f64]) {
 
 // ---- functions of spectra, and the calls that refuse: words are flags, indices into the pool, and values
 
+type P = *const f64;
+
 extern "C" {
-    fn optics_constant_eta(eta: *const f64, n: usize) -> bool;
-    fn optics_eta_at(eta: *const f64, n: usize, wl: f64) -> f64;
-    fn optics_k_at(eta: *const f64, n: usize, k: *const f64, m: usize, wl: f64) -> f64;
-    fn optics_f(eta: *const f64, n: usize, k: *const f64, m: usize, wo: Vec3, wh: Vec3, wls: Color) -> Color;
-    fn optics_checked_is_delta(s: rulvimba::Surface, eta: *const f64, n: usize, k: *const f64, m: usize) -> Answer<bool>;
-    fn optics_checked_chi_pass(s: rulvimba::Surface, eta: *const f64, n: usize, k: *const f64, m: usize, wo: Vec3, wh: Vec3) -> Answer<bool>;
-    fn optics_checked_disney_diffuse(s: rulvimba::Surface, eta: *const f64, n: usize, k: *const f64, m: usize, wo: f64, wi: f64, wh: f64) -> Answer<f64>;
+    fn optics_constant_eta(eta: P, n: usize, outer: P, l: usize) -> bool;
+    fn optics_eta_at(eta: P, n: usize, wl: f64) -> f64;
+    fn optics_k_at(eta: P, n: usize, k: P, m: usize, wl: f64) -> f64;
+    fn optics_index_on(kind: u64, eta: P, n: usize, k: P, m: usize, outer: P, l: usize, wl: f64) -> f64;
+    fn optics_f(kind: u64, eta: P, n: usize, k: P, m: usize, outer: P, l: usize, wo: Vec3, wh: Vec3, wls: Color) -> Color;
+    fn optics_checked_is_delta(s: rulvimba::Surface, eta: P, n: usize, k: P, m: usize, outer: P, l: usize) -> Answer<bool>;
+    fn optics_checked_chi_pass(s: rulvimba::Surface, eta: P, n: usize, k: P, m: usize, outer: P, l: usize, wo: Vec3, wh: Vec3) -> Answer<bool>;
+    fn optics_checked_disney_diffuse(s: rulvimba::Surface, eta: P, n: usize, k: P, m: usize, outer: P, l: usize, wo: f64, wi: f64, wh: f64) -> Answer<f64>;
 }
 
-/// How many words a surface has: its kind, x and y roughness, and which eta and k of the pool.
-const SURFACE: usize = 5;
+/// How many words a surface has: its kind, x and y roughness, and which eta, k and outer spectrum of the pool.
+const SURFACE: usize = 6;
 
 /// The surface of an input's first words.
 pub struct Fields<'a> {
@@ -345,15 +353,12 @@ pub struct Fields<'a> {
     pub a: Vec2,
     pub eta: &'a [f64],
     pub k: &'a [f64],
+    pub outer: &'a [f64],
 }
 
 fn fields(w: &[f64]) -> Fields<'static> {
-    Fields {
-        kind: w[0] as u64,
-        a: Vec2::new(w[1], w[2]),
-        eta: eta_of(w[3] as usize),
-        k: k_of(w[4] as usize),
-    }
+    let [eta, k, outer] = spectra_of([w[3], w[4], w[5]].map(|i| i as usize));
+    Fields { kind: w[0] as u64, a: Vec2::new(w[1], w[2]), eta, k, outer }
 }
 
 impl Fields<'_> {
@@ -362,7 +367,7 @@ impl Fields<'_> {
     }
 
     fn refused(&self) -> u64 {
-        if self.kind > GLASS { 1 } else { surface_refused(self.glass(), self.a, self.eta, self.k) }
+        if self.kind > GLASS { 1 } else { surface_refused(self.glass(), self.a, self.eta, self.k, self.outer) }
     }
 
     // as the library takes them
@@ -371,7 +376,7 @@ impl Fields<'_> {
     }
 
     fn spectra(&self) -> Spectra<'_> {
-        Spectra { eta: self.eta, k: self.k }
+        Spectra { eta: self.eta, k: self.k, outer: self.outer }
     }
 
     /// lumo's surface, made anew where the last call had another.
@@ -395,10 +400,10 @@ impl Fields<'_> {
 
     /// What the judge of these spectra answers, where a lookup can read them.
     fn judged<R>(&self, call: impl FnOnce(&dyn Judge) -> R) -> R {
-        if self.eta.len() == SAMPLES && self.k.len() == SAMPLES {
+        if is_lumos(self.glass(), self.eta, self.k, self.outer) {
             return call(self.rust());
         }
-        call(&Reading { glass: self.glass(), a: self.a, eta: self.eta, k: self.k })
+        call(&Reading::new(self.glass(), self.a, self.eta, self.k, self.outer))
     }
 }
 
@@ -413,7 +418,8 @@ pub fn other_kind(rng: &mut Rng) -> u64 {
 
 /// The kind of an input's surface: now and then it is neither metal nor glass.
 fn kind(w: &[f64]) -> f64 {
-    let rng = &mut Rng(w.iter().fold(0, |h, x| h.rotate_left(7) ^ x.to_bits()));
+    let but_outer = w[..SURFACE - 1].iter().chain(&w[SURFACE..]);
+    let rng = &mut Rng(but_outer.fold(0, |h, x| h.rotate_left(7) ^ x.to_bits()));
     if rng.below(32) == 0 { other_kind(rng) as f64 } else { w[0] }
 }
 
@@ -441,14 +447,14 @@ pub fn density(of: &(impl Judge + ?Sized), wo: Vec3, wi: Vec3, reflection: bool,
     if c.number == 0 && !c.value.is_finite() { Answer { number: 9, value: 0.0 } } else { c }
 }
 
-/// Fills the surface, of `n` entries, then the parts; a few of the words are then any.
-fn checked_fill(parts: &[Part], wavelengths: usize, n: usize, rng: &mut Rng, w: &mut [f64]) {
-    let glass = rng.below(2) == 0;
-    let [eta, k] = pick_any(rng, n, glass);
+/// Fills the surface, of such spectra, then the parts; a few of the words are then any.
+fn checked_fill(parts: &[Part], wavelengths: usize, tables: Tables, rng: &mut Rng, w: &mut [f64]) {
+    let n = tables.entries;
+    let glass = rng.below(2) == 0 || tables.outer && rng.below(2) == 0;
+    let picked = pick_any(rng, tables, glass);
     w[0] = glass as u8 as f64;
     w[1..3].copy_from_slice(&roughness(rng));
-    w[3] = eta as f64;
-    w[4] = k as f64;
+    w[3..SURFACE].copy_from_slice(&picked.map(|i| i as f64));
     let first = w.len() - wavelengths;
     fill(parts, rng, 9, &mut w[SURFACE..first]);
     for at in first..w.len() {
@@ -467,20 +473,21 @@ fn checked_fill(parts: &[Part], wavelengths: usize, n: usize, rng: &mut Rng, w: 
     }
 }
 
-/// A call that refuses, on spectra of `N` entries: its parts after the surface, then wavelengths.
+/// A call that refuses, on spectra of `N` entries, with outer ones of ones or, by `OUTER`, of any: its parts after the
+/// surface, then wavelengths.
 macro_rules! refusing {
     ( $( $number:literal $name:literal [ $( $part:ident ),* ] + $wls:literal -> $outs:literal, $here:expr, $rust:expr ; )* ) => {
-        fn refusing_functions<const N: usize>() -> Vec<Function> {
+        fn refusing_functions<const N: usize, const OUTER: bool>() -> Vec<Function> {
             vec![ $( {
                 const PARTS: &[Part] = &[ $( Part::$part ),* ];
                 let words: usize = PARTS.iter().map(|p| p.words()).sum();
                 let here: fn(&Fields, &[f64], &mut [u64]) = $here;
                 let rust: fn(&Fields, &[f64], &mut [u64]) = $rust;
                 Function {
-                    entries: Some(N),
+                    tables: Some(Tables { entries: N, outer: OUTER }),
                     shape: vec![Slot::Float; SURFACE + words + $wls],
                     source: Some(|rng, _, w| {
-                        checked_fill(PARTS, $wls, N, rng, w);
+                        checked_fill(PARTS, $wls, Tables { entries: N, outer: OUTER }, rng, w);
                         let mut at = SURFACE;
                         for part in PARTS {
                             if *part == Part::Flag {
@@ -509,8 +516,17 @@ macro_rules! call {
         rulvimba::$name($f.record(), $f.spectra() $( , $arg )* )
     };
     ( $name:ident, $f:expr $( , $arg:expr )* ) => {
-        unsafe { $name($f.record(), $f.eta.as_ptr(), $f.eta.len(), $f.k.as_ptr(), $f.k.len() $( , $arg )* ) }
+        unsafe { $name($f.record(), $f.eta.as_ptr(), $f.eta.len(), $f.k.as_ptr(), $f.k.len(), $f.outer.as_ptr(), $f.outer.len() $( , $arg )* ) }
     };
+}
+
+/// The same for the functions that check nothing: a kind is metal or glass.
+macro_rules! unchecked {
+    ( $name:ident, $f:expr $( , $arg:expr )* ) => { {
+        let f = $f;
+        let (eta, k, outer) = (f.eta, f.k, f.outer);
+        unsafe { $name(f.glass() as u64, eta.as_ptr(), eta.len(), k.as_ptr(), k.len(), outer.as_ptr(), outer.len() $( , $arg )* ) }
+    } };
 }
 
 refusing! {
@@ -599,10 +615,13 @@ refusing! {
     // unchecked, on tables of any values, and of unlike lengths beside 471 entries
     931 "optics_constant_eta" [] + 0 -> 1,
         |f, _, out| {
-            let eta = taken::<N>(f).eta;
-            unsafe { optics_constant_eta(eta.as_ptr(), eta.len()) }.put(out)
+            let Fields { eta, outer, .. } = taken::<N>(f);
+            unsafe { optics_constant_eta(eta.as_ptr(), eta.len(), outer.as_ptr(), outer.len()) }.put(out)
         },
-        |f, _, out| judge::is_constant(taken::<N>(f).eta).put(out);
+        |f, _, out| {
+            let Fields { eta, outer, .. } = taken::<N>(f);
+            (judge::is_constant(eta) && judge::is_constant(outer)).put(out)
+        };
     932 "optics_eta_at" [] + 1 -> 1,
         |f, w, out| {
             let eta = taken::<N>(f).eta;
@@ -617,21 +636,29 @@ refusing! {
         |f, w, out| judge::sample_one(taken::<N>(f).k, at_hand(w[0])).put(out);
     934 "optics_f" [Wo, Wh] + 4 -> 4,
         |f, w, out| {
-            let Fields { eta, k, .. } = taken::<N>(f);
             let wls = Color(Color::get(&w[6..]).0.map(at_hand));
-            unsafe { optics_f(eta.as_ptr(), eta.len(), k.as_ptr(), k.len(), v3(w), v3(&w[3..]), wls) }.put(out)
+            unchecked!(optics_f, taken::<N>(f), v3(w), v3(&w[3..]), wls).put(out)
         },
         |f, w, out| {
             let wls = Color::get(&w[6..]).0.map(at_hand);
             Color(taken::<N>(f).judged(|j| j.f(v3(w), v3(&w[3..]), wls))).put(out)
         };
+    935 "optics_index_on" [] + 1 -> 1,
+        |f, w, out| unchecked!(optics_index_on, taken::<N>(f), at_hand(w[0])).put(out),
+        |f, w, out| taken::<N>(f).judged(|j| j.eta_at(at_hand(w[0]))).put(out);
+}
+
+/// The index that a surface of such a kind has at a wavelength, unchecked.
+pub fn index_at(kind: u64, of: Spectra, wl: f64) -> f64 {
+    let (eta, k, outer) = (of.eta, of.k, of.outer);
+    unsafe { optics_index_on(kind, eta.as_ptr(), eta.len(), k.as_ptr(), k.len(), outer.as_ptr(), outer.len(), wl) }
 }
 
 /// The fields with tables of one spacing, of any values: another in the place of what isn't one.
 fn taken<'a, const N: usize>(f: &Fields<'a>) -> Fields<'a> {
     let or = |v: &'a [f64], w: &'a [f64]| if v.len() == N { v } else { w };
     let [eta, k] = accepted_spectra(N);
-    Fields { eta: or(f.eta, eta), k: or(f.k, k), ..*f }
+    Fields { eta: or(f.eta, eta), k: or(f.k, k), outer: or(f.outer, air(N)), ..*f }
 }
 
 /// A wavelength that the Rust takes.
@@ -645,7 +672,7 @@ fn rust_make_surface(f: &Fields) -> [u64; 4] {
     [made.number, (made.number == 0 && f.glass()) as u64, bits(made.value.x), bits(made.value.y)]
 }
 
-/// x and y roughness by `MicrofacetConfig::new`, whose assertion is the refusal 1; then 2 and 3.
+/// x and y roughness by `MicrofacetConfig::new`, whose assertion is the refusal 1; then 2, 3 and 13.
 pub fn make_surface(f: &Fields) -> Answer<Vec2> {
     let refused = |number| Answer { number, value: Vec2::new(0.0, 0.0) };
     if f.kind > GLASS {
@@ -657,13 +684,10 @@ pub fn make_surface(f: &Fields) -> Answer<Vec2> {
         crate::tracer::microfacet::MicrofacetConfig::new(f.a.x, one(1.0), one(0.0), t(), t(), t()).roughness
     });
     let Some(a) = made else { return refused(1) };
-    if eta_refused(f.eta) {
-        return refused(2);
+    match spectra_refused(f.glass(), f.eta, f.k, f.outer) {
+        0 => Answer { number: 0, value: a },
+        number => refused(number),
     }
-    if k_refused(f.glass(), f.eta, f.k) {
-        return refused(3);
-    }
-    Answer { number: 0, value: a }
 }
 
 fn checked_outgoing(checks: &[(u64, bool)], value: impl FnOnce() -> Outgoing) -> Outgoing {
@@ -675,6 +699,10 @@ fn checked_outgoing(checks: &[(u64, bool)], value: impl FnOnce() -> Outgoing) ->
 
 fn takes_no_spectra(f: &Function) -> bool {
     ["rulvimba_reflect", "rulvimba_refract"].contains(&f.name)
+}
+
+fn takes_outer(f: &Function) -> bool {
+    !takes_no_spectra(f) && !["optics_eta_at", "optics_k_at"].contains(&f.name)
 }
 
 pub fn table() -> Vec<Function> {
@@ -696,41 +724,77 @@ pub fn table() -> Vec<Function> {
         }
     }
     // mirror and bend take no spectra
-    let (mut of_none, of_coarse): (Vec<_>, Vec<_>) = refusing_functions::<SAMPLES>().into_iter().partition(takes_no_spectra);
-    of_none.iter_mut().for_each(|f| f.entries = None);
+    let (mut of_none, of_coarse): (Vec<_>, Vec<_>) = refusing_functions::<SAMPLES, false>().into_iter().partition(takes_no_spectra);
+    of_none.iter_mut().for_each(|f| f.tables = None);
     all.extend(of_none);
     all.extend(of_coarse);
-    all.extend(refusing_functions::<FINE_SAMPLES>().into_iter().filter(|f| !takes_no_spectra(f)));
+    all.extend(refusing_functions::<FINE_SAMPLES, false>().into_iter().filter(|f| !takes_no_spectra(f)));
+    all.extend(refusing_functions::<SAMPLES, true>().into_iter().filter(takes_outer));
+    all.extend(refusing_functions::<FINE_SAMPLES, true>().into_iter().filter(takes_outer));
     all.sort_by_key(|f| f.number);
     all
 }
 
 // ---- the sample: a surface's spectra stand in records before those of its functions
 
-/// The entries of eta and of k where they are others than before.
+/// The numbers of a spectrum's records: its entries as they are; one past that 95 entries, two past it 471, by their first
+/// words, which stand by turns.
+const ETA: u32 = 970;
+const K: u32 = 980;
+const OUTER: u32 = 940;
+
+/// The most words that a record's count has room for.
+const WORDS: usize = 99;
+
+/// How a spectrum stands in a record, with at most so many words by turns: what its number adds to its kind's, and the
+/// words. None where a record has no room for it.
+fn as_record(values: &[f64], turns: usize) -> Option<(u32, &[f64])> {
+    let same = |i: usize, p: usize| bits(values[i]) == bits(values[i - p]);
+    let shortest = (1..=turns).find(|p| (*p..values.len()).all(|i| same(i, *p)));
+    match (values.len(), shortest) {
+        (SAMPLES, Some(p)) => Some((1, &values[..p])),
+        (FINE_SAMPLES, Some(p)) => Some((2, &values[..p])),
+        (n, _) if n <= WORDS => Some((0, values)),
+        _ => None,
+    }
+}
+
+/// Whether records have room for a spectrum.
+pub fn is_writable(values: &[f64]) -> bool {
+    as_record(values, WORDS).is_some()
+}
+
+/// The entries of a surface's spectra where they are others than before.
 pub struct Written {
-    eta: Vec<u64>,
-    k: Vec<u64>,
+    before: [Vec<u64>; 3],
 }
 
 impl Written {
     pub fn new() -> Self {
-        Self { eta: vec![], k: vec![] }
+        Self { before: [vec![], vec![], vec![]] }
     }
 
-    pub fn write(&mut self, eta: &[f64], k: &[f64], out: &mut String) {
-        fn one(before: &mut Vec<u64>, values: &[f64], number: u32, out: &mut String) {
-            let now: Vec<u64> = values.iter().map(|v| bits(*v)).collect();
-            // the first record of none stands too
-            if *before == now && !now.is_empty() {
-                return;
-            }
-            let constant = now.len() == SAMPLES && now.iter().all(|v| *v == now[0]);
-            record(out, number + constant as u32, if constant { &values[..1] } else { values }, &[]);
-            *before = now;
+    /// Those of a surface in air: its outer spectrum is not written.
+    pub fn write_in_air(&mut self, eta: &[f64], k: &[f64], out: &mut String) {
+        self.one(0, eta, ETA, 1, out);
+        self.one(1, k, K, 1, out);
+    }
+
+    pub fn write(&mut self, eta: &[f64], k: &[f64], outer: &[f64], out: &mut String) {
+        self.one(0, eta, ETA, WORDS, out);
+        self.one(1, k, K, WORDS, out);
+        self.one(2, outer, OUTER, WORDS, out);
+    }
+
+    fn one(&mut self, which: usize, values: &[f64], number: u32, turns: usize, out: &mut String) {
+        let now: Vec<u64> = values.iter().map(|v| bits(*v)).collect();
+        // the first record of none stands too
+        if self.before[which] == now && !now.is_empty() {
+            return;
         }
-        one(&mut self.eta, eta, 970, out);
-        one(&mut self.k, k, 980, out);
+        let (more, words) = as_record(values, turns).expect("a record has room for the spectrum");
+        record(out, number + more, words, &[]);
+        self.before[which] = now;
     }
 }
 
@@ -741,9 +805,9 @@ const ON_EACH: usize = 2;
 /// Document 01's samples of a surface that is made: roughness 0 is accepted as 1e-5; -1e-9 and NaN are 1.
 fn sample_roughness(written: &mut Written, out: &mut String) {
     let (eta, k) = ([1.5; SAMPLES], [0.0; SAMPLES]);
-    written.write(&eta, &k, out);
+    written.write_in_air(&eta, &k, out);
     for (a, number) in [(0.0, 0), (-1e-9, 1), (f64::NAN, 1)] {
-        let f = Fields { kind: GLASS, a: Vec2::splat(a), eta: &eta, k: &k };
+        let f = Fields { kind: GLASS, a: Vec2::splat(a), eta: &eta, k: &k, outer: air(SAMPLES) };
         let made = rust_make_surface(&f);
         assert!(made[0] == number && f64::from_bits(made[2]) == [1e-5, 0.0][number as usize], "document 01's roughness {a}");
         record(out, 962, &[1.0, a, a], &made);
@@ -753,7 +817,8 @@ fn sample_roughness(written: &mut Written, out: &mut String) {
 /// Records of every function that the Rust judges: the number, the counts of words, the words in, its words out.
 pub fn sample(seed: u64) -> String {
     let mut out = String::new();
-    let recorded = table().into_iter().filter(|f| f.is_judged_by_rust() && f.number != 950);
+    // the index by itself stands in the sample of outer spectra
+    let recorded = table().into_iter().filter(|f| f.is_judged_by_rust() && ![935, 950].contains(&f.number));
     let (of_surfaces, others): (Vec<Function>, Vec<Function>) = recorded.partition(|f| f.number > 930);
     for f in &others {
         f.sample(seed, 60, &mut out);
@@ -770,7 +835,7 @@ pub fn sample(seed: u64) -> String {
             6 => k = POOL.ks_taken + rng.below(POOL.ks.len() - 1 - POOL.ks_taken),
             _ => (),
         }
-        written.write(&POOL.etas[eta], &POOL.ks[k], &mut out);
+        written.write_in_air(&POOL.etas[eta], &POOL.ks[k], &mut out);
         for f in &of_surfaces {
             // these read 95 entries
             if f.number < 950 && (POOL.etas[eta].len() != SAMPLES || POOL.ks[k].len() != SAMPLES) {
@@ -780,19 +845,23 @@ pub fn sample(seed: u64) -> String {
                 let mut w = vec![0.0; f.ins()];
                 (f.source.unwrap())(rng, i, &mut w);
                 w[0] = glass as u8 as f64;
-                w[3] = eta as f64;
-                w[4] = k as f64;
-                if f.number < 950 {
-                    w[SURFACE..].iter_mut().rev().take([0, 1, 1, 4][f.number as usize - 931]).for_each(|l| *l = at_hand(*l));
-                }
-                let mut answer = vec![0; f.outs];
-                (f.rust)(&w, &mut answer);
-                w.drain(3..5);
-                record(&mut out, f.number, &w, &answer);
+                record_on(f, [eta, k, AIR], w, &mut out);
             }
         }
     }
     out
+}
+
+/// The record of a function on the surface of an input with other spectra, which stand before it.
+pub fn record_on(f: &Function, spectra: [usize; 3], mut w: Vec<f64>, out: &mut String) {
+    w[3..SURFACE].copy_from_slice(&spectra.map(|i| i as f64));
+    if f.number < 950 {
+        w[SURFACE..].iter_mut().rev().take([0, 1, 1, 4, 1][f.number as usize - 931]).for_each(|l| *l = at_hand(*l));
+    }
+    let mut answer = vec![0; f.outs];
+    (f.rust)(&w, &mut answer);
+    w.drain(3..SURFACE);
+    record(out, f.number, &w, &answer);
 }
 
 // ---- for the benchmark: functions of a whole surface, two directions and a wavelength
@@ -800,8 +869,9 @@ pub fn sample(seed: u64) -> String {
 pub type OfSurface = extern "C-unwind" fn(&Surface, Vec3, Vec3, f64) -> f64;
 
 fn eta_and_k(s: &Surface, wl: f64) -> (f64, f64) {
-    let (eta, k) = (&s.eta, &s.k);
-    unsafe { (optics_eta_at(eta.as_ptr(), eta.len(), wl), optics_k_at(eta.as_ptr(), eta.len(), k.as_ptr(), k.len(), wl)) }
+    let Surface { eta, k, outer, .. } = s;
+    let index = index_at(s.glass as u64, Spectra { eta, k, outer }, wl);
+    (index, unsafe { optics_k_at(eta.as_ptr(), eta.len(), k.as_ptr(), k.len(), wl) })
 }
 
 extern "C-unwind" fn here_f_at(s: &Surface, wo: Vec3, wh: Vec3, wl: f64) -> f64 {
@@ -815,7 +885,9 @@ extern "C-unwind" fn rust_f_at(s: &Surface, wo: Vec3, wh: Vec3, wl: f64) -> f64 
 
 extern "C-unwind" fn here_f(s: &Surface, wo: Vec3, wh: Vec3, wl: f64) -> f64 {
     let wls = Color([wl, 400.0, 512.5, 700.0]);
-    let f = unsafe { optics_f(s.eta.as_ptr(), s.eta.len(), s.k.as_ptr(), s.k.len(), wo, wh, wls) };
+    let f = unsafe {
+        optics_f(s.glass as u64, s.eta.as_ptr(), s.eta.len(), s.k.as_ptr(), s.k.len(), s.outer.as_ptr(), s.outer.len(), wo, wh, wls)
+    };
     f.0[0] + f.0[1] + f.0[2] + f.0[3]
 }
 

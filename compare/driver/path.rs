@@ -3,7 +3,7 @@
 //! library.rs what is held against the bounce.
 use super::harness::*;
 use super::inputs::{near_unit, Rng};
-use super::judge::{self, Judge};
+use super::judge::{Judge, Tables};
 use super::library::output_of;
 use super::numbers::record;
 use super::optics::{caught, g_over_g1, Color, Written};
@@ -115,11 +115,10 @@ fn shares_hold(a: &Color) -> bool {
 
 /// 0 where the bounce is accepted.
 pub fn refused(p: &Path, s: &Surface, b: &Bounce) -> u64 {
-    let surface = surface_refused(s.glass, s.a, &s.eta, &s.k);
-    if surface != 0 {
-        return surface;
+    match s.refused() {
+        0 => refused_on(p, b),
+        number => number,
     }
-    refused_on(p, b)
 }
 
 /// The same on a surface that is accepted.
@@ -152,15 +151,16 @@ fn random_of(b: &Bounce) -> Random {
     Random { x: b.disk, y: 0.0, c: b.c, s: b.s }
 }
 
-/// A surface, and lumo's over it twice, where it has 95 entries: a `BSDF` hands out no `BxDF`.
+/// A surface, and lumo's over it twice, where it has one: a `BSDF` hands out no `BxDF`.
 pub struct Lumo {
     pub surface: Surface,
     bsdf: Option<BSDF>,
 }
 
 impl Lumo {
-    pub fn new(glass: bool, a: Vec2, eta: &[f64], k: &[f64]) -> Self {
-        Self { surface: Surface::new(glass, a, eta, k), bsdf: Surface::new(glass, a, eta, k).rust.map(BSDF::new) }
+    pub fn new(glass: bool, a: Vec2, eta: &[f64], k: &[f64], outer: &[f64]) -> Self {
+        let made = || Surface::new(glass, a, eta, k, outer);
+        Self { surface: made(), bsdf: made().rust.map(BSDF::new) }
     }
 }
 
@@ -263,25 +263,22 @@ fn v(x: u64, y: u64, z: u64) -> Vec3 {
 
 const ONES: Color = Color([1.0; 4]);
 
-/// Surfaces of `n` entries: the first are those of the samples of document 01 and of known edges.
-pub fn surfaces(rng: &mut Rng, count: usize, n: usize) -> Vec<Lumo> {
-    let all = |x: f64| vec![x; n];
-    let smooth = Vec2::splat(1e-5);
-    let mut out = vec![
-        Lumo::new(false, smooth, &all(1.0), &all(2.0)),
-        Lumo::new(true, smooth, &all(3.0), &all(0.0)),
-        Lumo::new(true, Vec2::splat(1.0), &all(1f64.next_up()), &all(0.0)),
-        Lumo::new(true, Vec2::splat(0.5), &all(0.75), &all(0.0)),
-        Lumo::new(false, Vec2::splat(1.0), &all(1.0), &all(2.0)),
-    ];
+/// Surfaces of such spectra: the first are those of the samples of document 01 and of known edges, whose glass has the
+/// same index where it doesn't lie in air, both spectra being constant.
+pub fn surfaces(rng: &mut Rng, count: usize, tables: Tables) -> Vec<Lumo> {
+    let all = |x: f64| vec![x; tables.entries];
+    let by = if tables.outer { 2.0 } else { 1.0 };
+    let metal = |a: f64| Lumo::new(false, Vec2::splat(a), &all(1.0), &all(2.0), if tables.outer { &[] } else { air(tables.entries) });
+    let glass = |a: f64, index: f64| Lumo::new(true, Vec2::splat(a), &all(by * index), &all(0.0), &all(by));
+    let mut out = vec![metal(1e-5), glass(1e-5, 3.0), glass(1.0, 1f64.next_up()), glass(0.5, 0.75), metal(1.0)];
     while out.len() < count {
-        let glass = rng.below(2) == 0;
-        let [eta, k] = pick_for_list(rng, n, glass);
+        let glass = rng.below(2) == 0 || tables.outer && rng.below(2) == 0;
+        let [eta, k, outer] = pick_for_list(rng, tables, glass);
         let mut a = roughness(rng);
         if rng.below(24) == 0 {
             a[rng.below(2)] = [1e-5f64.next_down(), 1f64.next_up(), 0.0, f64::NAN, -1e-9][rng.below(5)];
         }
-        out.push(Lumo::new(glass, Vec2::new(a[0], a[1]), eta, k));
+        out.push(Lumo::new(glass, Vec2::new(a[0], a[1]), eta, k, outer));
     }
     out
 }
@@ -427,11 +424,12 @@ pub fn next_bounce(rng: &mut Rng, p: &Path, of: &[Lumo], on: Option<Vec3>) -> (u
 #[derive(Default)]
 pub struct Counts {
     pub bounces: usize,
-    /// Of these, on surfaces of 471 entries.
+    /// Of these, on surfaces of 471 entries, and on glass that doesn't lie in air.
     pub fine: usize,
+    pub outer: usize,
     lists: usize,
     pub differences: usize,
-    refused: [usize; 11],
+    refused: [usize; 14],
     lost_metal: usize,
     lost_glass: usize,
     reflected: [usize; 2],
@@ -439,17 +437,22 @@ pub struct Counts {
     not_finite: usize,
     /// After a direction, leading powers that are 0, and others.
     powers: [usize; 2],
+    /// Bounces with a NaN among the shares, the powers or the direction; and with shares outside 0 to 1, or whose sum isn't 1.
+    nan: usize,
+    shares: usize,
 }
 
 impl Counts {
     fn count(&mut self, of: &Lumo, a: &Bounced) {
+        let s = &of.surface;
         self.bounces += 1;
-        self.fine += (of.surface.eta.len() == FINE_SAMPLES && of.surface.k.len() == FINE_SAMPLES) as usize;
+        self.fine += (s.eta.len() == FINE_SAMPLES && s.k.len() == FINE_SAMPLES) as usize;
+        self.outer += (s.glass && !is_air(&s.outer)) as usize;
         match a.case {
             REFUSED => self.refused[a.number as usize] += 1,
-            LOST if of.surface.glass => self.lost_glass += 1,
+            LOST if s.glass => self.lost_glass += 1,
             LOST => self.lost_metal += 1,
-            REFLECTED => self.reflected[of.surface.glass as usize] += 1,
+            REFLECTED => self.reflected[s.glass as usize] += 1,
             _ => self.passed += 1,
         }
         if a.case >= REFLECTED {
@@ -457,30 +460,44 @@ impl Counts {
             self.powers[0] += (a.path.power.0[0] == 0.0) as usize;
             self.powers[1] += (a.path.power.0[0] != 0.0) as usize;
         }
-    }
-
-    /// Who judged, and how many where it was not the Rust alone.
-    pub fn judges(&self) -> String {
-        match self.fine {
-            0 => judge::name(Some(spectra::SAMPLES)).into(),
-            fine => format!("{}, on {fine}, the Rust on the rest", judge::name(Some(FINE_SAMPLES))),
+        // a refusal hands the path back, whatever it holds
+        if a.case != REFUSED {
+            let Shares { there, reflected, passed } = a.shares;
+            let numbers = [a.wi.x, a.wi.y, a.wi.z, reflected, passed];
+            self.nan += numbers.iter().chain(&a.path.power.0).any(|x| x.is_nan()) as usize;
+            self.shares += (there && !(within(0.0, 1.0, reflected) && within(0.0, 1.0, passed) && reflected + passed == 1.0)) as usize;
         }
     }
 
-    pub fn print(&self, name: &str) {
-        println!("{name:<44} {:>9} bounces {:>5} differences from {}, in {} lists", self.bounces, self.differences, self.judges(), self.lists);
+    /// All that makes a comparison fail.
+    pub fn faults(&self) -> usize {
+        self.differences + self.nan + self.shares
+    }
+
+    /// Who judged, and how many where it was not the Rust alone.
+    pub fn judges(&self, tables: Tables) -> String {
+        match (tables.outer, self.fine) {
+            (true, _) => format!("{}, {} on glass not in air", tables.judge(), self.outer),
+            (false, 0) => tables.judge().into(),
+            (false, fine) => format!("{}, on {fine}, the Rust on the rest", tables.judge()),
+        }
+    }
+
+    pub fn print(&self, name: &str, tables: Tables) {
+        println!("{name:<44} {:>9} bounces {:>5} differences from {}, in {} lists", self.bounces, self.differences, self.judges(tables), self.lists);
         println!(
             "  refused {} (by number {:?}), lost {} on metal and {} on glass, reflected {} by metal and {} by glass, passed {}",
             self.refused.iter().sum::<usize>(), &self.refused[1..], self.lost_metal, self.lost_glass, self.reflected[0], self.reflected[1], self.passed
         );
         println!("  density not finite {}; leading power after a direction 0 {}, else {}", self.not_finite, self.powers[0], self.powers[1]);
+        println!("  NaN among shares, powers and direction {}; shares outside 0 to 1 or not of sum 1 {}", self.nan, self.shares);
     }
 }
 
 pub fn report(name: &str, p: &Path, of: &Lumo, b: &Bounce, here: &[u64], rust: Option<&Bounced>) {
     let s = &of.surface;
     println!("  {name}, {}, roughness {}", if s.glass { "glass" } else { "metal" }, hex_floats(&[s.a.x, s.a.y]));
-    println!("    eta {}\n    k   {}", hex_floats(&s.eta), hex_floats(&s.k));
+    println!("    eta {}\n    k   {}\n    outer {}", hex_floats(&s.eta), hex_floats(&s.k), hex_floats(&s.outer));
     println!("    in  {}", hex_floats(&words_in(p, b)));
     println!("    here  {}", hex(here));
     match rust {
@@ -518,17 +535,18 @@ pub trait Subject {
     fn surfaces_end(&mut self, _of: &[Lumo]) {}
 }
 
-/// Lists of bounces on one path, `bounces` of them on surfaces of `n` entries or a few more, each beside the driver's own
+/// Lists of bounces on one path, `bounces` of them on surfaces of such spectra or a few more, each beside the driver's own
 /// answer; the first list has the known edges.
-pub fn walk<S: Subject>(seed: u64, n: usize, bounces: usize, subject: &mut S) -> Counts {
+pub fn walk<S: Subject>(seed: u64, tables: Tables, bounces: usize, subject: &mut S) -> Counts {
+    let n = tables.entries;
     let rng = &mut Rng(seed ^ 0x9a7b);
     let mut c = Counts::default();
-    let mut of = surfaces(rng, 64, n);
+    let mut of = surfaces(rng, 64, tables);
     while bounces > if n == FINE_SAMPLES { c.fine } else { c.bounces } {
         // other surfaces every so often
         if c.lists % 256 == 255 {
             subject.surfaces_end(&of);
-            of = surfaces(rng, 64, n);
+            of = surfaces(rng, 64, tables);
         }
         let mut p = start(rng, n);
         if c.lists == 0 {
@@ -582,10 +600,26 @@ pub fn sample(seed: u64) -> String {
     let mut out = String::new();
     let rng = &mut Rng(seed ^ 0x5a3);
     let mut written = Written::new();
-    let of = surfaces(rng, 48, spectra::SAMPLES);
-    for list in 0..LISTS {
-        let mut p = if list == 0 { Path { lambda: Color([400.0, 500.0, 600.0, 700.0]), power: ONES } } else { start(rng, spectra::SAMPLES) };
-        let length = if list == 0 { 11 } else { 1 + rng.below(LONGEST) };
+    let of = surfaces(rng, 48, Tables::in_air(spectra::SAMPLES));
+    sample_lists(rng, spectra::SAMPLES, &of, LISTS, LONGEST, &mut out, |s, out| {
+        // a record has at most 99 entries
+        if s.eta.len() > 99 || s.k.len() > 99 {
+            return false;
+        }
+        written.write_in_air(&s.eta, &s.k, out);
+        true
+    });
+    out
+}
+
+/// Records of so many lists of at most so many bounces, before each of which `spectra` writes those of its surface, or says
+/// that it can't. The first list has the known edges.
+pub fn sample_lists(
+    rng: &mut Rng, n: usize, of: &[Lumo], lists: usize, longest: usize, out: &mut String, mut spectra: impl FnMut(&Surface, &mut String) -> bool,
+) {
+    for list in 0..lists {
+        let mut p = if list == 0 { Path { lambda: Color([400.0, 500.0, 600.0, 700.0]), power: ONES } } else { start(rng, n) };
+        let length = if list == 0 { 11 } else { 1 + rng.below(longest) };
         let mut on = None;
         // a list has two surfaces of its own, so that few spectra are written
         let own = [rng.below(of.len()), rng.below(of.len())];
@@ -599,20 +633,17 @@ pub fn sample(seed: u64) -> String {
                 }
             };
             let s = &of[which].surface;
-            // a record has at most 99 entries
-            if s.eta.len() > 99 || s.k.len() > 99 {
+            if !spectra(s, out) {
                 continue;
             }
             let a = rust(&p, &of[which], &b);
-            written.write(&s.eta, &s.k, &mut out);
             let mut ins = vec![s.glass as u8 as f64, s.a.x, s.a.y];
             ins.extend(words_in(&p, &b));
-            record(&mut out, 990, &ins, &a.words());
+            record(out, 990, &ins, &a.words());
             on = (a.case >= REFLECTED).then_some(-a.wi);
             p = a.path;
         }
     }
-    out
 }
 
 // ---- for the benchmark
@@ -623,7 +654,10 @@ pub fn sample(seed: u64) -> String {
 pub extern "C-unwind" fn plain(p: Path, s: &Surface, b: Bounce) -> Bounced {
     match (refused(&p, s, &b), &s.rust) {
         (0, Some(own)) => plain_on(own, s.glass && own.constant_eta(), p, b),
-        (0, None) => plain_on(&s.reading(), s.glass && s.reading().constant_eta(), p, b),
+        (0, None) => {
+            let of = s.reading();
+            plain_on(&of, s.glass && of.constant_eta(), p, b)
+        }
         (number, _) => kept(number, p),
     }
 }
@@ -631,7 +665,7 @@ pub extern "C-unwind" fn plain(p: Path, s: &Surface, b: Bounce) -> Bounced {
 /// Many bounces on one surface, likewise: the surface is checked once, and whether its eta is constant is found once.
 #[inline(never)]
 pub fn plain_many(s: &Surface, input: &[f64], output: &mut [f64]) {
-    match (surface_refused(s.glass, s.a, &s.eta, &s.k), &s.rust) {
+    match (s.refused(), &s.rust) {
         (0, Some(own)) => plain_many_on(own, input, output),
         (0, None) => plain_many_on(&s.reading(), input, output),
         (number, _) => each_row(input, output, |p, _| kept(number, p)),
@@ -733,20 +767,35 @@ fn plain_on(of: &impl Judge, constant: bool, p: Path, b: Bounce) -> Bounced {
     }
 }
 
-/// A surface as a renderer has it.
+/// What lies outside a surface as a renderer has it.
+#[derive(Clone, Copy)]
+pub enum Outside {
+    Air,
+    /// A constant index.
+    Constant,
+    /// Water, whose index falls from violet to red.
+    Water,
+}
+
+/// A surface as a renderer has it, in air.
 pub fn usual_surface(rng: &mut Rng, glass: bool, rough: bool, varying: bool) -> Surface {
-    let [coarse, _] = surfaces_of(rng, glass, rough, varying, !glass);
+    let [coarse, _] = surfaces_of(rng, glass, rough, varying, !glass, Outside::Air);
     coarse
 }
 
-/// The same of 95 entries and of 471, and metal may be without absorption.
-pub fn surfaces_of(rng: &mut Rng, glass: bool, rough: bool, varying: bool, absorbs: bool) -> [Surface; 2] {
+/// The same of 95 entries and of 471, against anything, and metal may be without absorption.
+pub fn surfaces_of(rng: &mut Rng, glass: bool, rough: bool, varying: bool, absorbs: bool, outside: Outside) -> [Surface; 2] {
     let a = if rough { rng.between(0.05, 0.8) } else { 1e-5 };
     [(spectra::SAMPLES, 1.0), (FINE_SAMPLES, 0.2)].map(|(n, step)| {
         let rise = |by: f64| move |i: usize| by * step * i as f64;
         let eta: Vec<f64> = (0..n).map(rise(if varying { 0.001 } else { 0.0 })).map(|x| 1.5 + x).collect();
         let k: Vec<f64> = (0..n).map(rise(0.01)).map(|x| if absorbs { 2.0 + x } else { 0.0 }).collect();
-        Surface::new(glass, Vec2::splat(a), &eta, &k)
+        let outer: Vec<f64> = (0..n).map(rise(-0.00016)).map(|x| match outside {
+            Outside::Air => 1.0,
+            Outside::Constant => 1.333,
+            Outside::Water => 1.3445 + x,
+        }).collect();
+        Surface::new(glass, Vec2::splat(a), &eta, &k, &outer)
     })
 }
 

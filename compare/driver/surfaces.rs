@@ -1,6 +1,6 @@
 //! Surfaces, local directions and random numbers as inputs, and lumo's surfaces over the same fields.
 use super::inputs::{edges, near_unit, scaled, Rng};
-use super::judge::{Judge, Reading};
+use super::judge::{Judge, Reading, Tables};
 use super::spectra::{FINE_SAMPLES, SAMPLES};
 use crate::tracer::bxdf::BxDF;
 use crate::tracer::microfacet::{MfDistribution, MicrofacetConfig};
@@ -70,23 +70,45 @@ pub fn facets(a: Vec2) -> &'static MfDistribution {
     lent(a, 1.5, 0.0)
 }
 
+/// Whether lumo has such a surface: tables of 95 entries, and air outside glass.
+pub fn is_lumos(glass: bool, eta: &[f64], k: &[f64], outer: &[f64]) -> bool {
+    eta.len() == SAMPLES && k.len() == SAMPLES && (!glass || is_air(outer) && outer.len() == SAMPLES)
+}
+
+/// Whether an outer spectrum is 1.0 throughout.
+pub fn is_air(outer: &[f64]) -> bool {
+    outer.iter().all(|x| *x == 1.0)
+}
+
+/// An outer spectrum of ones.
+pub fn air(entries: usize) -> &'static [f64] {
+    static ONES: [f64; 512] = [1.0; 512];
+    &ONES[..entries]
+}
+
 /// A surface with its spectra in lists, and lumo's over the same.
 pub struct Surface {
     pub glass: bool,
     pub a: Vec2,
     pub eta: Vec<f64>,
     pub k: Vec<f64>,
-    /// None where a spectrum has another length than the Rust's.
+    pub outer: Vec<f64>,
+    /// None where lumo has no such surface.
     pub rust: Option<BxDF>,
 }
 
 impl Surface {
-    pub fn new(glass: bool, a: Vec2, eta: &[f64], k: &[f64]) -> Self {
-        let rust = (eta.len() == SAMPLES && k.len() == SAMPLES).then(|| {
+    pub fn new(glass: bool, a: Vec2, eta: &[f64], k: &[f64], outer: &[f64]) -> Self {
+        let rust = is_lumos(glass, eta, k, outer).then(|| {
             let of = distribution(a, spectrum_of(eta), spectrum_of(k));
             if glass { BxDF::MfDielectric(of) } else { BxDF::MfConductor(of) }
         });
-        Self { glass, a, eta: eta.to_vec(), k: k.to_vec(), rust }
+        Self { glass, a, eta: eta.to_vec(), k: k.to_vec(), outer: outer.to_vec(), rust }
+    }
+
+    /// 0 where it is accepted.
+    pub fn refused(&self) -> u64 {
+        surface_refused(self.glass, self.a, &self.eta, &self.k, &self.outer)
     }
 
     pub fn distribution(&self) -> &MfDistribution {
@@ -96,10 +118,10 @@ impl Surface {
     /// The second reading's surface.
     #[inline]
     pub fn reading(&self) -> Reading<'_> {
-        Reading { glass: self.glass, a: self.a, eta: &self.eta, k: &self.k }
+        Reading::new(self.glass, self.a, &self.eta, &self.k, &self.outer)
     }
 
-    /// What the surface's judge answers, where it is accepted: the Rust on 95 entries, else the second reading.
+    /// What the surface's judge answers, where it is accepted: the Rust where it has such a surface, else the second reading.
     pub fn judged<R>(&self, call: impl FnOnce(&dyn Judge) -> R) -> R {
         match &self.rust {
             Some(of) => call(of),
@@ -108,7 +130,7 @@ impl Surface {
     }
 }
 
-// ---- document 01's rules ("Records", "At the counter") with 02 (i), read once more
+// ---- document 01's rules ("Records", "At the counter") with 02 (i) and (iv), read once more
 
 pub fn within(lo: f64, hi: f64, x: f64) -> bool {
     lo <= x && x <= hi
@@ -129,14 +151,29 @@ pub fn k_refused(glass: bool, eta: &[f64], k: &[f64]) -> bool {
     k.len() != eta.len() || !(zero || !glass && k.iter().all(|v| within(1e-6, 100.0, *v)))
 }
 
+/// Beside an eta that is accepted, whose length glass's outer spectrum is to have. Metal has none: nothing is asked of
+/// what is lent beside it.
+pub fn outer_refused(glass: bool, eta: &[f64], outer: &[f64]) -> bool {
+    glass && (outer.len() != eta.len() || outer.iter().any(|v| !within(0.01, 100.0, *v)))
+}
+
 /// 0 where the fields of a surface are accepted.
-pub fn surface_refused(glass: bool, a: Vec2, eta: &[f64], k: &[f64]) -> u64 {
+pub fn surface_refused(glass: bool, a: Vec2, eta: &[f64], k: &[f64], outer: &[f64]) -> u64 {
     if !within(1e-5, 1.0, a.x) || !within(1e-5, 1.0, a.y) {
         1
-    } else if eta_refused(eta) {
+    } else {
+        spectra_refused(glass, eta, k, outer)
+    }
+}
+
+/// The same of its spectra alone.
+pub fn spectra_refused(glass: bool, eta: &[f64], k: &[f64], outer: &[f64]) -> u64 {
+    if eta_refused(eta) {
         2
     } else if k_refused(glass, eta, k) {
         3
+    } else if outer_refused(glass, eta, outer) {
+        13
     } else {
         0
     }
@@ -375,10 +412,14 @@ pub fn circle_pair(rng: &mut Rng) -> [f64; 2] {
 pub struct Pool {
     pub etas: Vec<Vec<f64>>,
     pub ks: Vec<Vec<f64>>,
+    /// Outer spectra, and those that match an eta: equal to it, and each entry the double above or below.
+    pub outers: Vec<Vec<f64>>,
+    matched: [Vec<Vec<f64>>; 3],
     /// How many at the front are accepted; of k, how many of them are all zero.
     pub etas_taken: usize,
     pub ks_taken: usize,
     pub ks_zero: usize,
+    pub outers_taken: usize,
 }
 
 /// Those of 95 entries and those of 471, each with a few of other lengths.
@@ -388,14 +429,45 @@ static FINE_POOL: LazyLock<Pool> = LazyLock::new(|| Pool::new(&mut Rng(0xf19e), 
 /// Both pools have their indices: from here on they are those of 471 entries.
 const FINE: usize = 1000;
 
+/// Indices of outer spectra besides those of the pools: ones, as many as eta has, and three that match eta.
+pub const AIR: usize = 2000;
+const MATCHED: usize = 2001;
+
+/// The pool of an index, and the index there.
+fn at_home(i: usize) -> (&'static Pool, usize) {
+    if i < FINE { (&POOL, i) } else { (&FINE_POOL, i - FINE) }
+}
+
 /// The eta of an index.
 pub fn eta_of(i: usize) -> &'static [f64] {
-    if i < FINE { &POOL.etas[i] } else { &FINE_POOL.etas[i - FINE] }
+    let (pool, i) = at_home(i);
+    &pool.etas[i]
 }
 
 /// The k of an index.
 pub fn k_of(i: usize) -> &'static [f64] {
-    if i < FINE { &POOL.ks[i] } else { &FINE_POOL.ks[i - FINE] }
+    let (pool, i) = at_home(i);
+    &pool.ks[i]
+}
+
+/// The outer spectrum of an index, beside the eta of one.
+pub fn outer_of(i: usize, eta: usize) -> &'static [f64] {
+    match i {
+        AIR => air(eta_of(eta).len()),
+        MATCHED.. => {
+            let (pool, eta) = at_home(eta);
+            &pool.matched[i - MATCHED][eta]
+        }
+        _ => {
+            let (pool, i) = at_home(i);
+            &pool.outers[i]
+        }
+    }
+}
+
+/// The eta, the k and the outer spectrum of three indices.
+pub fn spectra_of([eta, k, outer]: [usize; 3]) -> [&'static [f64]; 3] {
+    [eta_of(eta), k_of(k), outer_of(outer, eta)]
 }
 
 /// An eta and a k of `n` entries that are accepted.
@@ -404,13 +476,36 @@ pub fn accepted_spectra(n: usize) -> [&'static [f64]; 2] {
     [&pool.etas[0], &pool.ks[0]]
 }
 
-/// Indices of eta and k, often refused: of `n` entries, and beside 471 now and then 95.
-pub fn pick_any(rng: &mut Rng, n: usize, glass: bool) -> [usize; 2] {
-    if n == SAMPLES {
-        return POOL.pick_any(rng, glass);
+/// Indices of eta, k and the outer spectrum, often refused: of as many entries as the tables have, and beside 471 now and
+/// then 95.
+pub fn pick_any(rng: &mut Rng, tables: Tables, glass: bool) -> [usize; 3] {
+    let [eta, k] = if tables.entries == SAMPLES {
+        POOL.pick_any(rng, glass)
+    } else {
+        let picked = FINE_POOL.pick_any(rng, glass).map(|i| FINE + i);
+        unlike(rng, glass, picked)
+    };
+    [eta, k, pick_outer(rng, tables, glass, eta, 8)]
+}
+
+/// The index of an outer spectrum beside an eta: on glass mostly one that is accepted, one in `often` of any; beside metal
+/// any.
+fn pick_outer(rng: &mut Rng, tables: Tables, glass: bool, eta: usize, often: usize) -> usize {
+    if !tables.outer {
+        return AIR;
     }
-    let picked = FINE_POOL.pick_any(rng, glass).map(|i| FINE + i);
-    unlike(rng, glass, picked)
+    let mut pools = [(&POOL, 0), (&FINE_POOL, FINE)];
+    pools.rotate_left((eta >= FINE) as usize);
+    if rng.below(if glass { often } else { 2 }) == 0 {
+        // now and then of the other spacing
+        let (pool, from) = pools[(rng.below(4) == 0) as usize];
+        return from + rng.below(pool.outers.len());
+    }
+    match rng.below(8) {
+        0 => AIR,
+        1 | 2 => MATCHED + rng.below(3),
+        _ => pools[0].1 + rng.below(pools[0].0.outers_taken),
+    }
 }
 
 /// One in 24 has an eta of 95 entries in the place of 471, one a k.
@@ -422,10 +517,11 @@ fn unlike(rng: &mut Rng, glass: bool, [eta, k]: [usize; 2]) -> [usize; 2] {
     }
 }
 
-/// The spectra of a list's surface: of `n` entries, one in twelve may be refused; among 471 one in eight has 95.
-pub fn pick_for_list(rng: &mut Rng, n: usize, glass: bool) -> [&'static [f64]; 2] {
+/// The spectra of a list's surface: one eta or k in twelve may be refused; among 471 entries one in eight has 95.
+pub fn pick_for_list(rng: &mut Rng, tables: Tables, glass: bool) -> [&'static [f64]; 3] {
+    let n = tables.entries;
     if n != SAMPLES && rng.below(8) == 0 {
-        return pick_for_list(rng, SAMPLES, glass);
+        return pick_for_list(rng, Tables { entries: SAMPLES, ..tables }, glass);
     }
     let (pool, from) = if n == SAMPLES { (&POOL, 0) } else { (&FINE_POOL, FINE) };
     let [mut eta, mut k] = pool.pick(rng, glass);
@@ -438,7 +534,8 @@ pub fn pick_for_list(rng: &mut Rng, n: usize, glass: bool) -> [&'static [f64]; 2
     if n != SAMPLES {
         picked = unlike(rng, glass, picked);
     }
-    [eta_of(picked[0]), k_of(picked[1])]
+    let [eta, k] = picked;
+    spectra_of([eta, k, pick_outer(rng, tables, glass, eta, 16)])
 }
 
 impl Pool {
@@ -514,7 +611,53 @@ impl Pool {
         for n in others {
             ks.push(vec![0.0; *n]);
         }
-        Self { etas, ks, etas_taken, ks_taken, ks_zero }
+
+        let mut outers = vec![];
+        for x in [1.333, 1.5, 1.0, 0.01, 100.0, 3.0, 0.75, 1f64.next_up(), 1f64.next_down(), 0.01f64.next_up(), 100f64.next_down(), 1.473] {
+            outers.push(constant(x));
+        }
+        for _ in 0..12 {
+            outers.push(constant(index(rng)));
+        }
+        for _ in 0..6 {
+            let mut varying = |of: &mut dyn FnMut(&mut Rng, usize) -> f64| {
+                let v: Vec<f64> = (0..n).map(|i| of(rng, i)).collect();
+                outers.push(v);
+            };
+            // water, and liquids of a steeper curve
+            varying(&mut |_, i| 1.3445 - 0.0152 * i as f64 / n as f64);
+            varying(&mut |_, i| 1.6 - 0.2 * i as f64 / n as f64);
+            varying(&mut |rng, _| rng.between(0.01, 100.0));
+            varying(&mut |rng, _| index(rng));
+            varying(&mut |_, i| if i % 2 == 0 { 0.01 } else { 100.0 });
+            varying(&mut |_, i| if i % 2 == 0 { 100.0 } else { 0.01 });
+            varying(&mut |rng, _| beside(rng, 1.0));
+            varying(&mut |rng, _| rng.between(0.9, 1.1));
+            // few entries by turns
+            let few: [f64; 7] = std::array::from_fn(|_| rng.between(1.0, 2.0));
+            outers.push((0..n).map(|i| few[i % 7]).collect());
+            // one entry aside, and one that is the next double
+            let (x, at) = (index(rng), rng.below(n));
+            outers.push((0..n).map(|i| if i == at { (x * 1.01).clamp(0.01, 100.0) } else { x }).collect());
+            let (x, last) = (index(rng), [0, n - 1][rng.below(2)]);
+            outers.push((0..n).map(|i| if i == last { x.next_up().clamp(0.01, 100.0) } else { x }).collect());
+        }
+        let outers_taken = outers.len();
+        for x in [0.01f64.next_down(), 100f64.next_up(), f64::NAN, f64::INFINITY, 0.0, -0.0, -1.333, -f64::INFINITY, f64::from_bits(1)] {
+            for at in [0, rng.below(n), n - 1] {
+                let mut v = constant(1.333);
+                v[at] = x;
+                outers.push(v);
+            }
+            outers.push(constant(x));
+        }
+        for n in others.iter().chain(&[SAMPLES, FINE_SAMPLES]) {
+            outers.push(vec![1.0; *n]);
+            outers.push(vec![1.333; *n]);
+        }
+        let matched = [|x: f64| x, |x: f64| x.next_up(), |x: f64| x.next_down()];
+        let matched = matched.map(|to| etas.iter().map(|eta| eta.iter().map(|x| to(*x)).collect()).collect());
+        Self { etas, ks, outers, matched, etas_taken, ks_taken, ks_zero, outers_taken }
     }
 
     /// The fields of a surface as indices: mostly one that is accepted.

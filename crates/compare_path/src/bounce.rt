@@ -18,11 +18,12 @@ pub extern "C" fn path_bounce_on(
     surface: SurfaceRecord,
     eta: &[f64],
     k: &[f64],
+    outer: &[f64],
     b: Bounce,
 ) -> BounceResult
-    ensures { λ r. ⌜ (r ≡ bounceResult (bounce (now (path .entry)) (surfaceWith surface (now (eta .entry)) (now (k .entry))) b)) × (now (path .exit) ≡ pathOf (bounce (now (path .entry)) (surfaceWith surface (now (eta .entry)) (now (k .entry))) b)) ⌝ }
+    ensures { λ r. ⌜ (r ≡ bounceResult (bounce (now (path .entry)) (surfaceWith surface (now (eta .entry)) (now (k .entry)) (now (outer .entry))) b)) × (now (path .exit) ≡ pathOf (bounce (now (path .entry)) (surfaceWith surface (now (eta .entry)) (now (k .entry)) (now (outer .entry))) b)) ⌝ }
 {
     let made = surfaces::of_record(surface);
-    let answer = thin::bounce_on(path, made, eta, k, b);
+    let answer = thin::bounce_on(path, made, eta, k, outer, b);
     plain::of_bounced(answer)
 }

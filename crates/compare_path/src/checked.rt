@@ -108,10 +108,11 @@ pub extern "C" fn optics_checked_is_delta(
     surface: SurfaceRecord,
     eta: &[f64],
     k: &[f64],
+    outer: &[f64],
 ) -> BoolResult
-    ensures { λ r. ⌜ r ≡ boolResult (Counter.isDelta (surfaceWith surface (now (eta .entry)) (now (k .entry)))) ⌝ }
+    ensures { λ r. ⌜ r ≡ boolResult (Counter.isDelta (surfaceWith surface (now (eta .entry)) (now (k .entry)) (now (outer .entry)))) ⌝ }
 {
-    results::of_bool(counter::is_delta(surfaces::of_record(surface), eta, k))
+    results::of_bool(counter::is_delta(surfaces::of_record(surface), eta, k, outer))
 }
 
 #[no_mangle]
@@ -119,12 +120,13 @@ pub extern "C" fn optics_checked_chi_pass(
     surface: SurfaceRecord,
     eta: &[f64],
     k: &[f64],
+    outer: &[f64],
     wo: Vec3,
     wh: Vec3,
 ) -> BoolResult
-    ensures { λ r. ⌜ r ≡ boolResult (Counter.chiPass (surfaceWith surface (now (eta .entry)) (now (k .entry))) wo wh) ⌝ }
+    ensures { λ r. ⌜ r ≡ boolResult (Counter.chiPass (surfaceWith surface (now (eta .entry)) (now (k .entry)) (now (outer .entry))) wo wh) ⌝ }
 {
-    results::of_bool(counter::chi_pass(surfaces::of_record(surface), eta, k, wo, wh))
+    results::of_bool(counter::chi_pass(surfaces::of_record(surface), eta, k, outer, wo, wh))
 }
 
 #[no_mangle]
@@ -132,11 +134,20 @@ pub extern "C" fn optics_checked_disney_diffuse(
     surface: SurfaceRecord,
     eta: &[f64],
     k: &[f64],
+    outer: &[f64],
     wo: f64,
     wi: f64,
     wh: f64,
 ) -> FloatResult
-    ensures { λ r. ⌜ r ≡ floatResult (Counter.disneyDiffuse (surfaceWith surface (now (eta .entry)) (now (k .entry))) wo wi wh) ⌝ }
+    ensures { λ r. ⌜ r ≡ floatResult (Counter.disneyDiffuse (surfaceWith surface (now (eta .entry)) (now (k .entry)) (now (outer .entry))) wo wi wh) ⌝ }
 {
-    records::of_float(counter::disney_diffuse(surfaces::of_record(surface), eta, k, wo, wi, wh))
+    records::of_float(counter::disney_diffuse(
+        surfaces::of_record(surface),
+        eta,
+        k,
+        outer,
+        wo,
+        wi,
+        wh,
+    ))
 }

@@ -4,17 +4,21 @@ use numbers::vec3::Vec3;
 use optics::color::Color;
 use optics::microfacet;
 use optics::microfacet::Ggx;
+use optics::microfacet::Kind;
+use optics::microfacet::Known;
 ghost use mathlib.Core.Path.{_≡_};
 ghost use Rattle.optics.specs.Facets.{isDelta, lambda, chiPass, g1, g, gOverG1, d, sampleNormalPdf, fSchlick, disneyDiffuse};
 ghost use Rattle.optics.specs.Fresnel.{frReal, frComplex, fAt, f};
-ghost use Rattle.optics.specs.Surface.{constantEta, etaAt, kAt};
+ghost use Rattle.optics.specs.Surface.{medium, constantEta, etaAt, kAt, indexOn, kindOf};
 ghost use Rattle.optics.specs.Sampler.{sampleNormal};
 
+// Whether eta counts as constant, on glass.
 #[no_mangle]
-pub extern "C" fn optics_constant_eta(eta: &[f64]) -> bool
-    ensures { λ r. ⌜ r ≡ constantEta (now (eta .entry)) ⌝ }
+pub extern "C" fn optics_constant_eta(eta: &[f64], outer: &[f64]) -> bool
+    ensures { λ r. ⌜ r ≡ constantEta (now (eta .entry)) (medium (now (outer .entry))) ⌝ }
 {
-    microfacet::constant_eta(eta)
+    let known = Known::on_glass(eta, outer);
+    known.eta_constant
 }
 
 #[no_mangle]
@@ -29,6 +33,15 @@ pub extern "C" fn optics_k_at(eta: &[f64], k: &[f64], wl: f64) -> f64
     ensures { λ r. ⌜ r ≡ kAt (now (eta .entry)) (now (k .entry)) wl ⌝ }
 {
     microfacet::k_at(eta, k, wl)
+}
+
+// The index at one wavelength, on a kind by its code.
+#[no_mangle]
+pub extern "C" fn optics_index_on(kind: u64, eta: &[f64], k: &[f64], outer: &[f64], wl: f64) -> f64
+    ensures { λ r. ⌜ r ≡ indexOn (kindOf kind) (now (eta .entry)) (medium (now (outer .entry))) wl ⌝ }
+{
+    let at = microfacet::optical_constants(Kind::of_code(kind), eta, k, outer, wl);
+    at.eta
 }
 
 #[no_mangle]
@@ -139,8 +152,16 @@ pub extern "C" fn optics_f_at(wo: Vec3, wh: Vec3, eta: f64, k: f64) -> f64
 }
 
 #[no_mangle]
-pub extern "C" fn optics_f(eta: &[f64], k: &[f64], wo: Vec3, wh: Vec3, lambda: Color) -> Color
-    ensures { λ r. ⌜ r ≡ f (now (eta .entry)) (now (k .entry)) wo wh lambda ⌝ }
+pub extern "C" fn optics_f(
+    kind: u64,
+    eta: &[f64],
+    k: &[f64],
+    outer: &[f64],
+    wo: Vec3,
+    wh: Vec3,
+    lambda: Color,
+) -> Color
+    ensures { λ r. ⌜ r ≡ f (kindOf kind) (now (eta .entry)) (now (k .entry)) (medium (now (outer .entry))) wo wh lambda ⌝ }
 {
-    microfacet::f(eta, k, wo, wh, lambda)
+    microfacet::f(Kind::of_code(kind), eta, k, outer, wo, wh, lambda)
 }

@@ -43,7 +43,7 @@ fn bounce_of(w: &[f64; 30]) -> Bounce {
 }
 
 // Whether the answer of the bounce is the record's.
-pub fn replay(fd: i32, w: &[f64; 30], eta: &[f64], k: &[f64]) -> bool {
-    let answer = bsdf::bounce(path_of(w), words::surface(w), eta, k, bounce_of(w));
+pub fn replay(fd: i32, w: &[f64; 30], eta: &[f64], k: &[f64], outer: &[f64]) -> bool {
+    let answer = bsdf::bounce(path_of(w), words::surface(w), eta, k, outer, bounce_of(w));
     same_result(fd, plain::of_bounced(answer)) & same_path(fd, answer.path())
 }

@@ -66,12 +66,11 @@ pub fn first(entries: &[f64], n: usize) -> &[f64] {
     entries
 }
 
-// 95 entries of one value, which comes next.
-pub fn read_constant(fd: i32, entries: &mut [f64]) {
-    let value = float_if(fd, true);
-    let mut i: usize = 0;
+// The first `n` entries once more in the places after them, by turns.
+pub fn by_turns(entries: &mut [f64], n: usize) {
+    let mut i = n;
     while i < entries.len() {
-        entries[i] = value;
+        entries[i] = entries[i - n];
         i += 1;
     }
 }
