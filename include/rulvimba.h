@@ -243,7 +243,7 @@ rulvimba_vec3_result rulvimba_sample_normal(rulvimba_surface surface, const doub
 rulvimba_direction_result rulvimba_reflect(rulvimba_vec3 wo, rulvimba_vec3 n);
 
 /* A bend at an index, which of a surface is eta / outer, from 0.01 to 100: the direction, none, or total internal
- * reflection. A surface's own index may lie from 0.0001 to 10000: this call refuses what is beyond its limits.
+ * reflection. A surface's own index may lie from about 0.0001 to about 10000: this call refuses what is beyond its limits.
  * Refused: 2 the index; 5 wo, then n. */
 rulvimba_direction_result rulvimba_refract(double eta, rulvimba_vec3 wo, rulvimba_vec3 n);
 

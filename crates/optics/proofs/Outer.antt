@@ -46,7 +46,7 @@ first-read outer all holds =
     first-index outer table all (subst (λ (hi : Float). T (allWithin (decimal 1 100) hi outer)) max-is limits)
 
 -- eta's spacing is its own
-outer-own : (eta outer : List Float) (lambda : Float) → T (oneSpacing eta outer) → sampleOneAt (stepOf eta) outer lambda ≡ etaAt outer lambda
+pub outer-own : (eta outer : List Float) (lambda : Float) → T (oneSpacing eta outer) → sampleOneAt (stepOf eta) outer lambda ≡ etaAt outer lambda
 unfolding etaAt etaFrom
 outer-own eta outer lambda spacing = ap (λ (step : Float). sampleOneAt step outer lambda) (shared-step eta outer spacing)
 

@@ -1,21 +1,24 @@
--- Document 01's starred samples about this crate (`Samples` of specs/Samples.antt): each is computed
--- from the definitions.
+-- Document 01's starred samples about this crate and known values of the index of glass (`Samples`, `IndexSamples` of specs/Samples.antt): each is
+-- computed from the definitions.
 use mathlib.Core.Path.{_≡_, refl, ap, _∙_}
 use mathlib.Core.Bool.{Bool, false, cond}
 use lib.IntN.{negsuc}
-use lib.Ieee.{Float, fin, binary64, add, sub, mul, div, neg, lt, le, eq, isNan}
+use lib.Ieee.{Float, fin, binary64, add, sub, mul, div, neg, lt, le, eq, isNan, ofInt, toUnsigned, toBits}
 use Rattle.floats.specs.Float.{f0, f1, f2, decimal, epsilon, max, abs, clamp, signBit, signum, isInfinite, powi2}
 use Rattle.floats.specs.SquareRoot.{squareRoot}
+use Rattle.numbers.specs.DenseSpectrum.{stepOf, ceiling, upperPoint, upperLambda, upperWeight, interpolate, sampleOneAt, every, isConstant}
 use Rattle.numbers.specs.Vec3.{X, Z, dot, length, lengthSquared, normalize, divFloat, cross, floatMul, negate}
 use Rattle.numbers.specs.Vec3 as V3
 use Rattle.numbers.specs.Complex as C
 use Rattle.numbers.specs.declared.vec2.Vec2.{Vec2}
 use Rattle.numbers.specs.declared.vec3.Vec3.{Vec3}
 use Rattle.numbers.specs.SphericalUtils.{cosTheta, cos2Theta, sin2Theta, tan2Theta, sinTheta, cosPhi, sinPhi}
+use Rattle.optics.specs.Surface as Surface
+use Rattle.optics.specs.Surface.{etaFrom, etaAt, outerAt, indexOn}
 use Rattle.optics.specs.Facets.{half, alpha2, lambda, lambdaOf, chiPass, masked, g, g1, gOverG1}
 use Rattle.optics.specs.Fresnel.{indexFrom, sin2I, isTotal, cosI, contrast, meanSquare, unpolarized, frFacing, frReal, complexCosI, rPar, rPer, frComplexFacing, frComplex, fresnel, fAt}
 use Rattle.optics.specs.Sampler.{stretched, upright, viewed, tangent, lerp, diskX, diskH, diskY, diskZ, onHemisphere, combined, unstretched, sampleNormal}
-use Rattle.optics.specs.Samples.{quarter, three-quarters, rough, w, Samples}
+use Rattle.optics.specs.Samples.{quarter, three-quarters, rough, w, Samples, IndexSamples}
 
 fr-real-3 : frReal (dot Z Z) (decimal 3 1) ≡ quarter
 unfolding add sub mul div neg lt le eq isNan decimal epsilon max abs clamp signBit signum isInfinite powi2 squareRoot dot indexFrom sin2I isTotal cosI contrast meanSquare unpolarized frFacing frReal
@@ -99,3 +102,7 @@ samples = record {
   g1-across = g1-across;
   normal-z = normal-z;
 }
+
+pub index-samples : IndexSamples
+unfolding indexOn Surface.quotient etaAt etaFrom outerAt isConstant every stepOf sampleOneAt upperPoint upperLambda upperWeight ceiling interpolate decimal add sub mul div lt eq ofInt toUnsigned toBits
+index-samples = record { liquid = refl; ones = refl; ended = refl }

@@ -1,12 +1,16 @@
--- Document 01's measured samples that are to be proved (marked * there), as far as they concern this crate: one conjunction. Definitions only; it is proved in proofs/Samples.antt.
-use mathlib.Core.{Path._≡_, Bool.false}
+-- Document 01's measured samples that are to be proved (marked * there), as far as they concern this crate: one conjunction (`Samples`). Beside them known values of the index of
+-- glass (`IndexSamples`, 02 (iv)). Definitions only; both are proved in proofs/Samples.antt.
+use mathlib.Core.{Path._≡_, Bool.false, List.List}
 use lib.IntN.{negsuc}
-use lib.Ieee.{Float, fin}
+use lib.Ieee.{Float, fin, binary64, toBits}
+use lib.ListN.{replicate}
 use Rattle.floats.specs.Float.{f0, f1, f2, decimal}
 use Rattle.floats.specs.SquareRoot.{sqrt}
+use Rattle.numbers.specs.DenseSpectrum.{denseSamples}
 use Rattle.numbers.specs.Vec2.{vec2}
 use Rattle.numbers.specs.Vec3.{vec3, X, Z, dot}
 use Rattle.numbers.specs.declared.{vec2.Vec2.Vec2, vec3.Vec3.Vec3}
+use Rattle.optics.specs.Surface.{Glass, medium, indexOn}
 use Rattle.optics.specs.Facets.{half, lambda, g, g1, gOverG1}
 use Rattle.optics.specs.Fresnel.{frReal, frComplex, fAt}
 use Rattle.optics.specs.Sampler.{sampleNormal}
@@ -42,3 +46,15 @@ pub record Samples : Type 0 where
   pub g1-across : g1 rough Z X ≡ f0
   -- roughness 1, wo Z, disk 0, pair (1, 0): normal Z
   pub normal-z : sampleNormal rough Z f0 f1 f0 ≡ Z
+
+-- ---- eta 3, constant, against a constant outer spectrum
+abbrev pub against : Float → Float → Float
+against outer lambda = indexOn Glass (replicate denseSamples (decimal 3 1)) (medium (replicate denseSamples outer)) lambda
+
+pub record IndexSamples : Type 0 where
+  -- 1.333 at 360.9 nm: eta is interpolated, and the outer spectrum gives its entry; were it interpolated too, the last digit would be 4
+  pub liquid : toBits binary64 (against (decimal 1333 1000) (decimal 3609 10)) ≡ 0x4002_0126_fc59_e0e3
+  -- ones at 501 nm: the Rust's reading of eta, which rounds between grid points
+  pub ones : toBits binary64 (against f1 (decimal 501 1)) ≡ 0x4008_0000_0000_0001
+  -- a wavelength that was ended
+  pub ended : against (decimal 1333 1000) f0 ≡ f0

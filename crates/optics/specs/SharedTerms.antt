@@ -1,5 +1,5 @@
 -- The forms in which a term that is needed twice is computed once and handed on: the sine of the polar angle, wo · wh, Λ(wo), Snell's law, the step of the spectra and whether the outer one is constant. Definitions only.
--- From the term itself each is its formula of Facets.antt, Fresnel.antt, Bxdf.antt or Density.antt, by the laws of proofs/SharedTerms.antt.
+-- From the term itself each is its formula of Surface.antt, Facets.antt, Fresnel.antt, Bxdf.antt or Density.antt, by the laws of proofs/SharedTerms.antt.
 use mathlib.Core.Bool.{Bool, true, false, cond}
 use mathlib.Core.List.{List}
 use lib.Ieee.{Float, neg, lt, eq}

@@ -82,7 +82,8 @@ kEntriesHold Glass k = allZero k
 unfoldable pub kHolds : Kind → List Float → List Float → Bool
 kHolds kind eta k = isTable k && oneSpacing eta k && kEntriesHold kind k
 
--- glass's outer spectrum has eta's spacing and eta's limits (02 (iv)); metal has none, so nothing is asked of what is lent beside it
+-- glass's outer spectrum has eta's spacing, so it is a table where 2 hasn't refused eta, and eta's limits (02 (iv)); metal has none, so nothing is asked of what is lent
+-- beside it
 unfoldable pub outerHolds : Kind → List Float → Outside → Bool
 outerHolds Metal eta outside = true
 outerHolds Glass eta air = true

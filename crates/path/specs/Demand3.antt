@@ -21,7 +21,7 @@ Vec3F64 v = F64 (v .x) × F64 (v .y) × F64 (v .z)
 abbrev pub ColorF64 : Color → Type 0
 ColorF64 a = F64 (a .s0) × F64 (a .s1) × F64 (a .s2) × F64 (a .s3)
 
--- one entry of the list: the surface with its spectra, and the bounce's other arguments but the path
+-- one entry of the list: the surface with its spectra, and the bounce's other arguments but the path (a surface in `air`, which no call has, is covered besides: that is 01's own)
 pub record Step : Type 0 where
   pub surface : Microsurface
   pub bounce : Bounce
