@@ -7,7 +7,7 @@ use floats::float;
 use numbers::refusal::{Check, Refusal, refuse};
 
 #[repr(C)]
-#[derive(Drop)]
+#[derive(Clone, Copy)]
 pub struct Candidate {
     pub id: u16,
     pub density: f64,

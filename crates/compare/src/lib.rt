@@ -1,6 +1,8 @@
 // The functions of floats and numbers under names for C, but for the checked ones, for the comparison
 // with lumo's Rust. Each returns what the function that it calls returns, by the same definition.
 // Nothing else uses this crate.
+#![tactic(auto)]
+
 mod complex;
 mod dense_spectrum;
 mod float;

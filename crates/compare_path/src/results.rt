@@ -15,14 +15,14 @@ use rulvimba::records;
 use rulvimba::records::DirectionResult;
 
 #[repr(C)]
-#[derive(Drop)]
+#[derive(Clone, Copy)]
 pub struct BoolResult {
     pub number: u64,
     pub value: bool,
 }
 
 #[repr(C)]
-#[derive(Drop)]
+#[derive(Clone, Copy)]
 pub struct OnbResult {
     pub number: u64,
     pub value: Onb,
@@ -30,7 +30,7 @@ pub struct OnbResult {
 
 // A sampler's answer: `outcome` is that of a `DirectionResult`, and `reflection` the branch it took.
 #[repr(C)]
-#[derive(Drop)]
+#[derive(Clone, Copy)]
 pub struct ScatteredResult {
     pub outcome: u64,
     pub reflection: bool,

@@ -1,5 +1,7 @@
 // The calls at the counter (document 01): each checks what it is handed, in 01's order, and answers a value or the
 // refusal. A surface is its record with its spectra beside it, and its fields are checked first.
+#![tactic(auto)]
+
 ghost use Rattle.std.specs.Prelude.{◌≡◌};
 ghost use Rattle.numbers.specs.Checked.{float_answer, bool_answer, vec3_answer};
 ghost use Rattle.optics.specs.Surface.{medium, microsurface};
@@ -23,21 +25,21 @@ use optics::microfacet::{Ggx, Kind, Surface};
 use optics::{bxdf, microfacet};
 
 // A surface that was made; its spectra are those that were lent for the making.
-#[derive(Drop)]
+#[derive(Clone, Copy)]
 pub enum SurfaceAnswer {
     Refused(Refusal),
     Given(Surface),
 }
 
 // A Fresnel term at four wavelengths.
-#[derive(Drop)]
+#[derive(Clone, Copy)]
 pub enum ColorAnswer {
     Refused(Refusal),
     Given(Color),
 }
 
 // What a mirror answers.
-#[derive(Drop)]
+#[derive(Clone, Copy)]
 pub enum ReflectAnswer {
     Refused(Refusal),
     Direction(Vec3),
@@ -45,7 +47,7 @@ pub enum ReflectAnswer {
 }
 
 // What a bend answers: `Total` at total internal reflection.
-#[derive(Drop)]
+#[derive(Clone, Copy)]
 pub enum RefractAnswer {
     Refused(Refusal),
     Direction(Vec3),

@@ -1,4 +1,6 @@
 // IEEE 754's floats: what Rust's methods give, and the square root, which Rattle has no instruction for.
 // Every public function equals a definition of specs/, for every input.
+#![tactic(auto)]
+
 pub mod float;
 pub mod square_root;

@@ -34,7 +34,7 @@ const SECOND_LEFT: u64 = 0x20000000;
 // ---- the operand: a finite value above 0 is scaled once, before the first digit
 
 // A finite value above 0 is m * 4 ^ h times 2 ^ -2148, m being of 53 or 54 binary digits.
-#[derive(Drop)]
+#[derive(Clone, Copy)]
 struct Operand {
     m: u64,
     h: u64,
@@ -85,7 +85,7 @@ fn bit(b: bool) -> u64
 }
 
 // The root of the number that the bits taken so far form, and what its square leaves of it.
-#[derive(Drop)]
+#[derive(Clone, Copy)]
 struct RootRem {
     root: u64,
     rem: u64,

@@ -12,25 +12,25 @@ use crate::refusal::{Check, Refusal, refuse};
 use crate::vec3::Vec3;
 use crate::{dense_spectrum, spherical_utils};
 
-#[derive(Drop)]
+#[derive(Clone, Copy)]
 pub enum FloatAnswer {
     Refused(Refusal),
     Given(f64),
 }
 
-#[derive(Drop)]
+#[derive(Clone, Copy)]
 pub enum BoolAnswer {
     Refused(Refusal),
     Given(bool),
 }
 
-#[derive(Drop)]
+#[derive(Clone, Copy)]
 pub enum Vec3Answer {
     Refused(Refusal),
     Given(Vec3),
 }
 
-#[derive(Drop)]
+#[derive(Clone, Copy)]
 pub enum OnbAnswer {
     Refused(Refusal),
     Given(Onb),

@@ -6,7 +6,7 @@ use floats::float;
 use floats::square_root::{sqrt, sqrt_or_zero};
 
 #[repr(C)]
-#[derive(Drop)]
+#[derive(Clone, Copy)]
 pub struct Complex {
     pub Re: f64,
     pub Im: f64,

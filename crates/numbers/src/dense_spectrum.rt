@@ -18,7 +18,7 @@ pub const LAMBDA_MAX: f64 = 830.0;
 pub const ACCEPTED_MAX: f64 = LAMBDA_MAX;
 
 // Spectrum sampled at 5nm or at 1nm steps from 360nm to 830nm
-#[derive(Drop)]
+#[derive(Clone, Copy)]
 pub struct DenseSpectrum {}
 
 impl DenseSpectrum {
@@ -84,7 +84,7 @@ impl DenseSpectrum {
 // Where a wavelength lies among the grid points, which is found once for spectra of one spacing that are
 // read at one wavelength: `ended` for one that was ended, `exact` at the wavelength of the entry `upper`, and
 // `weight` how far it lies from the entry before.
-#[derive(Drop)]
+#[derive(Clone, Copy)]
 pub struct GridPoint {
     pub ended: bool,
     pub exact: bool,
@@ -118,7 +118,7 @@ const WHOLE_LESS_HALF: f64 = 4503599627370495.5;
 const SMALL_END: f64 = 2251799813685248.0;
 
 // A whole number, and its double.
-#[derive(Drop)]
+#[derive(Clone, Copy)]
 struct Whole {
     number: u64,
     value: f64,

@@ -1,5 +1,7 @@
 // Vectors, complex numbers, spectra, bases and angles: what the light-transport model of
 // lumo computes with. Every public function equals a definition of specs/, for every input.
+#![tactic(auto)]
+
 pub mod checked;
 pub mod complex;
 pub mod dense_spectrum;

@@ -7,7 +7,7 @@ use floats::float;
 
 // Small utility struct for orthonormal basis
 #[repr(C)]
-#[derive(Drop)]
+#[derive(Clone, Copy)]
 pub struct Onb {
     pub u: Vec3,
     pub v: Vec3,

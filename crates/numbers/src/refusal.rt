@@ -4,7 +4,7 @@ ghost use Rattle.numbers.specs.Refusal.{number, verdict, refuse, ◌then◌};
 
 // What was refused. The definition `number` gives the number of each, document 01's and from 11 on 02's.
 // A density is refused as `NotFinite` also where it is to be listed and below 0.
-#[derive(Drop)]
+#[derive(Clone, Copy)]
 pub enum Refusal {
     Roughness,
     Eta,
@@ -22,7 +22,7 @@ pub enum Refusal {
 }
 
 // Whether a check passed, and why not.
-#[derive(Drop)]
+#[derive(Clone, Copy)]
 pub enum Check {
     Accepted,
     Refused(Refusal),

@@ -7,7 +7,7 @@ use crate::vec3::Vec3;
 use floats::float;
 
 #[repr(C)]
-#[derive(Drop)]
+#[derive(Clone, Copy)]
 pub struct Vec2 {
     pub x: f64,
     pub y: f64,

@@ -8,7 +8,7 @@ use floats::float;
 use floats::square_root::sqrt_or_zero;
 
 #[repr(C)]
-#[derive(Drop)]
+#[derive(Clone, Copy)]
 pub struct Vec3 {
     pub x: f64,
     pub y: f64,

@@ -12,14 +12,14 @@ ghost use Rattle.optics.specs.Density.{on_zSide, at_z, pdf_of};
 ghost use Rattle.optics.specs.SharedTerms.{refract_facing_from, refract_from};
 
 // What a mirror answers.
-#[derive(Drop)]
+#[derive(Clone, Copy)]
 pub enum Reflected {
     Direction(Vec3),
     None,
 }
 
 // What a bend answers: `Total` at total internal reflection.
-#[derive(Drop)]
+#[derive(Clone, Copy)]
 pub enum Refracted {
     Direction(Vec3),
     None,
@@ -27,7 +27,7 @@ pub enum Refracted {
 }
 
 // What a sampler answers: a direction, and whether it is a reflection.
-#[derive(Drop)]
+#[derive(Clone, Copy)]
 pub enum Sampled {
     Direction { wi: Vec3, reflection: bool },
     None,

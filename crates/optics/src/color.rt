@@ -1,7 +1,7 @@
 // Four samples of a spectrum: lumo's src/tracer/color.rs. The same record holds the four wavelengths
 // at which a spectrum is sampled, lumo's `ColorWavelength`.
 #[repr(C)]
-#[derive(Drop)]
+#[derive(Clone, Copy)]
 pub struct Color {
     pub s0: f64,
     pub s1: f64,

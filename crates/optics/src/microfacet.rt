@@ -23,7 +23,7 @@ use numbers::{EPSILON, dense_spectrum};
 pub const PI: f64 = 3.141592653589793;
 
 // Microfacet mirror (lumo's `MfConductor`) or microfacet glass (`MfDielectric`).
-#[derive(Drop)]
+#[derive(Clone, Copy)]
 pub enum Kind {
     Metal,
     Glass,
@@ -64,7 +64,7 @@ impl Kind {
 
 // Configurable parameters for a microsurface. Its spectra are lent beside it: the refraction index eta, the
 // absorption coefficient k, and the outer spectrum, which is the refraction index of what lies outside glass.
-#[derive(Drop)]
+#[derive(Clone, Copy)]
 pub struct Surface {
     pub kind: Kind,
     // Roughness of the surface (α) along x and y
@@ -73,7 +73,7 @@ pub struct Surface {
 
 // What a call finds of a surface's spectra before it reads them at a wavelength: how far apart their entries are,
 // whether the outer spectrum is constant, and whether eta counts as constant, which takes both.
-#[derive(Drop)]
+#[derive(Clone, Copy)]
 pub struct Known {
     pub step: f64,
     pub outer_constant: bool,
@@ -108,7 +108,7 @@ pub fn k_at(eta: &[f64], k: &[f64], wl: f64) -> f64
 }
 
 // The index and the absorption coefficient: `eta` is on glass already divided by what lies outside.
-#[derive(Drop)]
+#[derive(Clone, Copy)]
 pub struct OpticalConstants {
     pub eta: f64,
     pub k: f64,
@@ -204,7 +204,7 @@ pub fn f_schlick(f0: f64, f90: f64, cos_theta: f64) -> f64
 }
 
 // The facets' distribution, GGX's: the surface's roughness, and nothing that has to be checked anew.
-#[derive(Drop)]
+#[derive(Clone, Copy)]
 pub struct Ggx {
     pub roughness: Vec2,
 }
@@ -639,7 +639,7 @@ fn fr_real_from(snell: Snell, cos_o: f64) -> f64
 
 // Snell's law at a facet, sin θo = η sin θi: the index against the side that light comes from, the sine's
 // square beyond the facet, and the cosine there. Both Fresnel's term and the bend read it.
-#[derive(Drop)]
+#[derive(Clone, Copy)]
 pub struct Snell {
     pub eta: f64,
     pub sin2: f64,

@@ -228,7 +228,7 @@ fn left_on_glass(constant: bool, lambda: Color) -> Color
 // Of a sampled direction: its density, and the share q of the light that the facets let through to it.
 // Both read Λ(wo), which is handed on, as is whether the surface scatters into one direction. The normal
 // that takes wo to wi stands first: its root is the one that most waits for.
-#[derive(Drop)]
+#[derive(Clone, Copy)]
 struct Seen {
     pdf: f64,
     q: f64,

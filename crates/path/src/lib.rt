@@ -1,5 +1,7 @@
 // A path of light and its bounces on metal and glass: from a world direction to the powers that are
 // left. Every public function equals a definition of specs/, for every input.
+#![tactic(auto)]
+
 pub mod bsdf;
 mod check;
 pub mod many;

@@ -9,7 +9,7 @@ use numbers::vec3::Vec3;
 
 // `finite` is 1 where there is a density and it is finite, else 0.
 #[repr(C)]
-#[derive(Drop)]
+#[derive(Clone, Copy)]
 pub struct DensityRecord {
     pub finite: u64,
     pub value: f64,
@@ -17,7 +17,7 @@ pub struct DensityRecord {
 
 // `given` is 1 on glass, which has shares, else 0.
 #[repr(C)]
-#[derive(Drop)]
+#[derive(Clone, Copy)]
 pub struct SharesRecord {
     pub given: u64,
     pub reflected: f64,
@@ -26,7 +26,7 @@ pub struct SharesRecord {
 
 // `outcome` is 0 refused, 1 lost, 2 reflected, 3 passed.
 #[repr(C)]
-#[derive(Drop)]
+#[derive(Clone, Copy)]
 pub struct BounceResult {
     pub number: u64,
     pub outcome: u64,

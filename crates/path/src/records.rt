@@ -11,7 +11,7 @@ use optics::color::Color;
 // Four wavelengths, each with the power that is left. 0 is a wavelength that was ended; the first,
 // the leading one, never is.
 #[repr(C)]
-#[derive(Drop)]
+#[derive(Clone, Copy)]
 pub struct Path {
     pub lambda: Color,
     pub power: Color,
@@ -21,7 +21,7 @@ pub struct Path {
 // number `u`, the disk number, a point (c, s) of the circle, and the filters of reflected and passed
 // light.
 #[repr(C)]
-#[derive(Drop)]
+#[derive(Clone, Copy)]
 pub struct Bounce {
     pub wo: Vec3,
     pub normal: Vec3,
@@ -34,27 +34,27 @@ pub struct Bounce {
     pub tf: Color,
 }
 
-#[derive(Drop)]
+#[derive(Clone, Copy)]
 pub enum Started {
     Refused(Refusal),
     Path(Path),
 }
 
-#[derive(Drop)]
+#[derive(Clone, Copy)]
 pub enum Density {
     Finite(f64),
     NotFinite,
 }
 
 // The shares of reflected and passed light at the leading wavelength, which glass has.
-#[derive(Drop)]
+#[derive(Clone, Copy)]
 pub enum Shares {
     None,
     Of { reflected: f64, passed: f64 },
 }
 
 // A refused bounce carries the path as it was; every other the path with its new powers.
-#[derive(Drop)]
+#[derive(Clone, Copy)]
 pub enum Bounced {
     Refused {
         why: Refusal,

@@ -1,5 +1,7 @@
 // Answers a job, which it reads from standard input or from the file that its argument names: one line
 // for each command (docs/RAYS.md). It holds a part of the job at a time, however long the job is.
+#![tactic(auto)]
+
 use libc::{STDERR_FILENO, STDIN_FILENO, STDOUT_FILENO};
 use text::answers::{Answered, Outcome, Tally};
 use text::words::part;

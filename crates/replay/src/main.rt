@@ -1,6 +1,8 @@
 // Replays a sample of the Rust's answers through the libraries, and one of a second reading's where glass doesn't lie
 // in air. For each family of functions: how many records there are and how many of them differ; and before that the
 // line of each that differs.
+#![tactic(auto)]
+
 use libc::STDOUT_FILENO;
 use record::Head;
 

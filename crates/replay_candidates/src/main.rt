@@ -1,6 +1,8 @@
 // Replays recorded lists of calls through the candidates crate. After each call the answer and the whole
 // list are held to the record's. Says how many calls and lists there are and how many calls differ, and
 // before that the line of the first that does.
+#![tactic(auto)]
+
 use candidates::candidate::Candidate;
 use candidates::list;
 use candidates::list::ROOM;

@@ -13,21 +13,21 @@ use numbers::vec3::Vec3;
 use optics::color::Color;
 
 #[repr(C)]
-#[derive(Drop)]
+#[derive(Clone, Copy)]
 pub struct FloatResult {
     pub number: u64,
     pub value: f64,
 }
 
 #[repr(C)]
-#[derive(Drop)]
+#[derive(Clone, Copy)]
 pub struct ColorResult {
     pub number: u64,
     pub value: Color,
 }
 
 #[repr(C)]
-#[derive(Drop)]
+#[derive(Clone, Copy)]
 pub struct Vec3Result {
     pub number: u64,
     pub value: Vec3,
@@ -35,7 +35,7 @@ pub struct Vec3Result {
 
 // `outcome` is 0 refused, 1 a direction, 2 none, 3 total internal reflection.
 #[repr(C)]
-#[derive(Drop)]
+#[derive(Clone, Copy)]
 pub struct DirectionResult {
     pub number: u64,
     pub outcome: u64,

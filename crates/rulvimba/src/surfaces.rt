@@ -16,14 +16,14 @@ use optics::check;
 use optics::microfacet::{Kind, METAL_CODE, Surface};
 
 #[repr(C)]
-#[derive(Drop)]
+#[derive(Clone, Copy)]
 pub struct SurfaceRecord {
     pub kind: u64,
     pub roughness: Vec2,
 }
 
 #[repr(C)]
-#[derive(Drop)]
+#[derive(Clone, Copy)]
 pub struct SurfaceResult {
     pub number: u64,
     pub surface: SurfaceRecord,

@@ -50,6 +50,21 @@ le_trans-fits (fin s m e) (fin t n d) (fin r k c) f g h p q =
     let c = (is_of z tt h).0 in
     le_of_below x z s r (mag x) (mag z) a c
     (below_trans s t r (mag x) (mag y) (mag z) (below_of-le x y s t (mag x) (mag y) a b p) (below_of-le y z t r (mag y) (mag z) b c q))
+le_trans-fits lib.Ieee.nan y z f g h p q = elim p [ ]
+le_trans-fits (inf false) lib.Ieee.nan z f g h p q = elim p [ ]
+le_trans-fits (inf false) (inf false) lib.Ieee.nan f g h p q = elim q [ ]
+le_trans-fits (inf false) (inf false) (fin r k c) f g h p q = elim q [ ]
+le_trans-fits (inf false) (inf true) z f g h p q = elim p [ ]
+le_trans-fits (inf false) (fin t n d) z f g h p q = elim p [ ]
+le_trans-fits (inf true) lib.Ieee.nan z f g h p q = elim p [ ]
+le_trans-fits (inf true) (inf t) lib.Ieee.nan f g h p q = elim q [ ]
+le_trans-fits (inf true) (fin t n d) lib.Ieee.nan f g h p q = elim q [ ]
+le_trans-fits (fin s m e) lib.Ieee.nan z f g h p q = elim p [ ]
+le_trans-fits (fin s m e) (inf false) lib.Ieee.nan f g h p q = elim q [ ]
+le_trans-fits (fin s m e) (inf false) (inf true) f g h p q = elim q [ ]
+le_trans-fits (fin s m e) (inf false) (fin r k c) f g h p q = elim q [ ]
+le_trans-fits (fin s m e) (inf true) z f g h p q = elim p [ ]
+le_trans-fits (fin s m e) (fin t n d) lib.Ieee.nan f g h p q = elim q [ ]
 
 -- ---- sizes, the infinity's being O
 pub size_of : (x : Float) → T (fits B x) → T (le f0 x) → (a : ℕ) × Ext x a × (rnd 53 a 1 ≡ a) × (a ≤ O)

@@ -33,6 +33,8 @@ unit_is = (refl, omega arith)
 -- a whole number as a float
 rescale : (x : Float) (s : Bool) (q : ℕ) → HasValue x s q 1 → Is x s (q * U)
 rescale (fin t m e) s q h = (h.0, ap (λ (z : ℕ). z * U) (sym (mul-one (m * up e)) ∙ h.1) ∙ mul_right_comm q (down e) U)
+rescale nan s q h = elim h [ ]
+rescale (inf _) s q h = elim h [ ]
 
 pub int_is : (q : ℕ) → q ≤ 2 ^ 53 → Is (of_int B (pos q)) false (q * U)
 unfolding of_int
@@ -89,6 +91,8 @@ ext_of (fin s m e) f h =
     let x = fin s m e in
     let k = is_of x tt f in
     (mag x, inl (k.1.1, (s, k.0, below_nil s (mag x) (below_of-le f0 x false s 0 (mag x) nil_is k.0 h))), k.1.0)
+ext_of nan f h = elim h [ ]
+ext_of (inf true) f h = elim h [ ]
 
 -- ---- the order
 below_of : (s t : Bool) (a b : ℕ) → nn s a ≡ 0 → nn t b ≡ 0 → a ≤ b → Below s a t b
@@ -100,6 +104,8 @@ of_below s t a b p q h = omega (arith, pp_is s a p, pp_is t b q)
 fine_inf : (x : Float) (s : Bool) (a : ℕ) → Is x s a → T (le x (inf false))
 unfolding le
 fine_inf (fin t m e) s a h = tt
+fine_inf nan s a h = elim h [ ]
+fine_inf (inf _) s a h = elim h [ ]
 
 inf_inf : T (le (inf false) (inf false))
 unfolding le
@@ -108,6 +114,8 @@ inf_inf = tt
 not_inf : (y : Float) (t : Bool) (b : ℕ) → Is y t b → T (le (inf false) y) → ⊥
 unfolding le
 not_inf (fin t m e) s b h l = l
+not_inf nan s b h l = elim h [ ]
+not_inf (inf _) s b h l = elim h [ ]
 
 pub ext_le : (x y : Float) (a b : ℕ) → Ext x a → Ext y b → a ≤ b → T (le x y)
 ext_le x y a b (inl p) (inl q) h =
@@ -236,10 +244,14 @@ sub-fine x y a b p q h =
 inf_add : (y : Float) (t : Bool) (b : ℕ) → Is y t b → add B (inf false) y ≡ inf false
 unfolding add
 inf_add (fin t m e) s b h = refl
+inf_add nan s b h = elim h [ ]
+inf_add (inf _) s b h = elim h [ ]
 
 add_inf : (x : Float) (s : Bool) (a : ℕ) → Is x s a → add B x (inf false) ≡ inf false
 unfolding add
 add_inf (fin t m e) s b h = refl
+add_inf nan s b h = elim h [ ]
+add_inf (inf _) s b h = elim h [ ]
 
 inf_add_inf : add B (inf false) (inf false) ≡ inf false
 unfolding add
@@ -309,6 +321,8 @@ lt_of_pos (fin false m e) n h p =
     let a : 0 < m * up e = first_pos (m * up e) U (subst (λ (z : ℕ). 0 < z) (sym h.1) (mul-pos p (down_pos e))) in
     lt→ltb (0 * 1 * down e) (m * up e * 1) (omega arith)
 lt_of_pos (fin true m e) n h p = absurd (true≢false h.0)
+lt_of_pos nan n h p = elim h [ ]
+lt_of_pos (inf _) n h p = elim h [ ]
 
 inf_pos : T (lt f0 (inf false))
 unfolding lt

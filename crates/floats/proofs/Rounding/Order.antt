@@ -20,6 +20,7 @@ below_not : (s t : Bool) (a b : ℕ) → T (below s a t b) → Below t b s a →
 below_not false false a b p q = let h = ltb→lt a b p in omega arith
 below_not true false a b p q = let h = ltb→lt 0 (a + b) p in omega arith
 below_not true true a b p q = let h = ltb→lt b a p in omega arith
+below_not false true a b p q = elim p [ ]
 
 not_below : (s t : Bool) (a b : ℕ) → (T (below s a t b) → ⊥) → Below t b s a
 not_below false false a b n = elim (below_or_from a b) [ inl h ↦ absurd (n (lt→ltb a b h)) | inr h ↦ omega arith ]
@@ -33,11 +34,19 @@ unfolding lt le is_finite
 lt_not_le (fin s m e) (fin t n d) f g p q =
     below_not s t (m * up e * down d) (n * up d * down e) p
     (test→below t s (n * up d * down e) (m * up e * down d) q)
+lt_not_le lib.Ieee.nan y f g p q = elim f [ ]
+lt_not_le (lib.Ieee.inf _) y f g p q = elim f [ ]
+lt_not_le (fin s m e) lib.Ieee.nan f g p q = elim g [ ]
+lt_not_le (fin s m e) (lib.Ieee.inf _) f g p q = elim g [ ]
 
 not_lt-le : (x y : Float) → T (is_finite x) → T (is_finite y) → (T (lt x y) → ⊥) → T (le y x)
 unfolding lt le is_finite
 not_lt-le (fin s m e) (fin t n d) f g p =
     below→test t s (n * up d * down e) (m * up e * down d) (not_below s t (m * up e * down d) (n * up d * down e) p)
+not_lt-le lib.Ieee.nan y f g p = elim f [ ]
+not_lt-le (lib.Ieee.inf _) y f g p = elim f [ ]
+not_lt-le (fin s m e) lib.Ieee.nan f g p = elim g [ ]
+not_lt-le (fin s m e) (lib.Ieee.inf _) f g p = elim g [ ]
 
 not_le-lt : (x y : Float) → T (is_finite x) → T (is_finite y) → (T (le y x) → ⊥) → T (lt x y)
 not_le-lt x y f g n = go (lt x y) (not_lt-le x y f g)
@@ -52,6 +61,7 @@ le_of_lt x y t = go (lt x y) t
   where
     go : (b : Bool) → T b → T (b || eq x y)
     go true t = tt
+    go false t = elim t [ ]
 
 pub lt-asym : (x y : Float) → Finite x → Finite y → T (lt x y) → T (lt y x) → ⊥
 lt-asym x y f g p q = lt_not_le x y f.finite_x g.finite_x p (le_of_lt y x q)

@@ -181,6 +181,8 @@ square q t n h l =
 div_by_inf : (x : Float) (s : Bool) (a : ℕ) → Is x s a → (t : Bool) × Is (div B x (inf false)) t 0
 unfolding div
 div_by_inf (fin u m e) s a h = (unlike u false, (refl, omega arith))
+div_by_inf lib.Ieee.nan s a h = elim h [ ]
+div_by_inf (inf _) s a h = elim h [ ]
 
 div-signed : (x y : Float) (s t : Bool) (a b : ℕ) → Is x s a → Is y t b → 0 < b → a ≤ b
     → Is (div B x y) (unlike s t) (rnd 53 (a * U) b) × (rnd 53 (a * U) b ≤ U)

@@ -152,6 +152,8 @@ same_ok : (l m : List ℕ) → T (same l m) → l ≡ m
 unfolding same
 same_ok [] [] t = refl
 same_ok (i ∷ l) (j ∷ m) t = λ d. eqb→eq i j (and_l (eqb i j) (same l m) t) d ∷ same_ok l m (and_r (eqb i j) (same l m) t) d
+same_ok [] (j ∷ m) t = elim t [ ]
+same_ok (i ∷ l) [] t = elim t [ ]
 
 first : Ordering → Bool → Bool
 first Ordering.lt b = true
@@ -386,6 +388,10 @@ lookup : (ρ : List R) (κ β : List ℕ) (i : ℕ) → Bds ρ κ β → Bd (num
 lookup [] [] [] i h = rw ab-nat (omega arith)
 lookup (a ∷ ρ) (j ∷ κ) (b ∷ β) zero h = h.0
 lookup (a ∷ ρ) (j ∷ κ) (b ∷ β) (suc i) h = lookup ρ κ β i h.1
+lookup [] [] (b ∷ β) i h = elim h [ ]
+lookup [] (j ∷ κ) β i h = elim h [ ]
+lookup (a ∷ ρ) [] β i h = elim h [ ]
+lookup (a ∷ ρ) (j ∷ κ) [] i h = elim h [ ]
 
 unfoldable pub deg : List ℕ → Ex → ℕ
 deg κ (va i) = num κ i

@@ -134,6 +134,7 @@ inf_times n s t p (inr z) = go (eqb n 0) (eq→eqb z)
   where
     go : (b : Bool) → T b → NotNegative (cond b nan (inf (unlike s t)))
     go true h = tt
+    go false h = elim h [ ]
 
 times_inf : (m : ℕ) (s t : Bool) → t ≡ false → (s ≡ false) ⊎ (m ≡ 0) → NotNegative (cond (eqb m 0) nan (inf (unlike s t)))
 times_inf m s t p (inl q) = plus_not_below (cond (eqb m 0) nan (inf (unlike s t))) (inf_or_nan (eqb m 0) (unlike s t) (unlike-plus s t q p))
@@ -141,6 +142,7 @@ times_inf m s t p (inr z) = go (eqb m 0) (eq→eqb z)
   where
     go : (b : Bool) → T b → NotNegative (cond b nan (inf (unlike s t)))
     go true h = tt
+    go false h = elim h [ ]
 
 down_down : (e d : ℤ) → 0 < down e * down d
 down_down e d = mul-pos (down_pos e) (down_pos d)
@@ -241,3 +243,5 @@ at_most_one x h l = let f = finite_of x h l in (f, not_below_le x h (is_finite_l
 
     is_finite_lem : (x : Float) → T (finite x) → T (is_finite x)
     is_finite_lem (fin s m e) f = tt
+    is_finite_lem nan f = elim f [ ]
+    is_finite_lem (inf _) f = elim f [ ]

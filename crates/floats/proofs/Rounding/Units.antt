@@ -78,6 +78,9 @@ whole_at m (negsuc k) l h =
 
 pub each : (a b c d : Bool) → T (a && b && c && d) → T a × T b × T c × T d
 each true true true d t = (tt, tt, tt, t)
+each false b c d t = elim t [ ]
+each true false c d t = elim t [ ]
+each true true false d t = elim t [ ]
 
 pub fits-parts : (s : Bool) (m : ℕ) (e : ℤ) → T (fits B (fin s (suc m) e))
     → (suc m % 2 ≡ 1) × (suc m < 2 ^ 53) × (down e ≤ 2 ^ 1074) × (suc m * up e < 2 ^ 1024 * down e)
@@ -123,10 +126,14 @@ is_of (fin s (suc m) e) f t =
       subst Held (sym q)
           (rnd-fix 53 (suc m) w.0 p.1, under_O (suc m * up e) n (down e) v p.3),
     )
+is_of nan f t = elim f [ ]
+is_of (inf _) f t = elim f [ ]
 
 -- the size is determined
 pub is_same : (x : Float) (s t : Bool) (a b : ℕ) → Is x s a → Is x t b → (s ≡ t) × (a ≡ b)
 is_same (fin u m e) s t a b h k = (sym h.0 ∙ k.0, eq_of_mul-eq-mul_right (down e) (down_pos e) a b (sym h.1 ∙ k.1))
+is_same nan s t a b h k = elim h [ ]
+is_same (inf _) s t a b h k = elim h [ ]
 
 pub units_pos : (m n : ℕ) (e : ℤ) → suc m * up e * U ≡ n * down e → 0 < n
 units_pos m n e h = first_pos n (down e) (subst (λ (z : ℕ). 0 < z) h (mul-pos (mul-pos (zero-lt-suc m) (up_pos e)) U_pos))
@@ -150,6 +157,16 @@ le-finite (fin s m e) nan (fin t n d) f g h k = absurd h
 le-finite (fin s m e) (inf false) (fin t n d) f g h k = absurd k
 le-finite (fin s m e) (inf true) (fin t n d) f g h k = absurd h
 le-finite (fin s m e) (fin u l c) (fin t n d) f g h k = tt
+le-finite nan y z f g h k = elim f [ ]
+le-finite (inf _) y z f g h k = elim f [ ]
+le-finite (fin s m e) nan nan f g h k = elim g [ ]
+le-finite (fin s m e) nan (inf _) f g h k = elim g [ ]
+le-finite (fin s m e) (inf false) nan f g h k = elim g [ ]
+le-finite (fin s m e) (inf false) (inf _) f g h k = elim g [ ]
+le-finite (fin s m e) (inf true) nan f g h k = elim g [ ]
+le-finite (fin s m e) (inf true) (inf _) f g h k = elim g [ ]
+le-finite (fin s m e) (fin u l c) nan f g h k = elim g [ ]
+le-finite (fin s m e) (fin u l c) (inf _) f g h k = elim g [ ]
 
 -- ---- two values that fit and have the same sign and size are the same: their bit patterns are made from the sign and the size alone
 abbrev pub pattern : Bool → ℕ → ℕ
@@ -158,6 +175,8 @@ pattern s n = cond s (2 ^ 63) 0 + (size n - 53) * 2 ^ 52 + n / 2 ^ (size n - 53)
 pub bits_of : (x : Float) (s : Bool) (a : ℕ) → Is x s a → to_bits B x ≡ pattern s a
 unfolding to_bits U
 bits_of (fin t m e) s a h = ap (λ (n : ℕ). pattern t n) (exact m e a h.1) ∙ ap (λ (z : Bool). pattern z a) h.0
+bits_of nan s a h = elim h [ ]
+bits_of (inf _) s a h = elim h [ ]
 
 pub unique : (x y : Float) (s : Bool) (a : ℕ) → T (fits B x) → T (fits B y) → Is x s a → Is y s a → x ≡ y
 unique x y s a p q v w = sym (of_bits-to_bits B x p) ∙ ap (of_bits B) (bits_of x s a v ∙ sym (bits_of y s a w)) ∙ of_bits-to_bits B y q
@@ -188,6 +207,7 @@ Below s a t b = pp s a + nn t b ≤ pp t b + nn s a
 pub either : (a b : Bool) → T a ⊎ T b → T (a || b)
 either true b h = tt
 either false b (inr t) = t
+either false b (inl x'') = elim x'' [ ]
 
 or_case : (P : Type 0) (a b : Bool) → (T a → P) → (T b → P) → T (a || b) → P
 or_case P true b f g t = f tt
@@ -244,6 +264,10 @@ le_of_below (fin u m e) (fin v n d) s t a b h k l =
     (move u v a b (m * up e * down d) (n * up d * down e) U (down e * down d) U_pos
     (over (m * up e) a (down e) (down d) h.1) (over' (n * up d) b (down e) (down d) k.1)
     (subst (λ (z : Bool). Below z a v b) (sym h.0) (subst (λ (z : Bool). Below s a z b) (sym k.0) l)))
+le_of_below nan y s t a b h k l = elim h [ ]
+le_of_below (inf _) y s t a b h k l = elim h [ ]
+le_of_below (fin u m e) nan s t a b h k l = elim k [ ]
+le_of_below (fin u m e) (inf _) s t a b h k l = elim k [ ]
 
 pub below_of-le : (x y : Float) (s t : Bool) (a b : ℕ) → Is x s a → Is y t b → T (le x y) → Below s a t b
 unfolding le
@@ -252,6 +276,10 @@ below_of-le (fin u m e) (fin v n d) s t a b h k l =
     (move u v (m * up e * down d) (n * up d * down e) a b (down e * down d) U (mul-pos (down_pos e) (down_pos d))
     (sym (over (m * up e) a (down e) (down d) h.1)) (sym (over' (n * up d) b (down e) (down d) k.1))
     (test→below u v (m * up e * down d) (n * up d * down e) l)))
+below_of-le nan y s t a b h k l = elim h [ ]
+below_of-le (inf _) y s t a b h k l = elim h [ ]
+below_of-le (fin u m e) nan s t a b h k l = elim k [ ]
+below_of-le (fin u m e) (inf _) s t a b h k l = elim k [ ]
 
 -- ---- `round`, by units: a fraction a / c rounds to `rnd 53 (a * U) c` units
 pub round-units : (s : Bool) (a c : ℕ) → rnd 53 (a * U) c < O → Is (round B s a c) s (rnd 53 (a * U) c)
@@ -278,6 +306,8 @@ round_whole s n h = subst (λ (z : ℕ). Is (round B s n U) s z) (rnd_U n) (roun
 pub neg_is : (x : Float) (s : Bool) (a : ℕ) → Is x s a → Is (neg x) (not s) a
 unfolding neg
 neg_is (fin u m e) s a h = (ap not h.0, h.1)
+neg_is nan s a h = elim h [ ]
+neg_is (inf _) s a h = elim h [ ]
 
 pub sub_opens : (x y : Float) → sub B x y ≡ add B x (neg y)
 unfolding sub
@@ -318,6 +348,10 @@ mul_is (fin u m e) (fin v n d) s t a b h k =
     (mul-pos U_pos U_pos)
     (mul-mul-mul_comm (m * up e) (n * up d) U U ∙ ap (λ (z : ℕ). z * (n * up d * U)) h.1 ∙ ap (λ (z : ℕ). a * down e * z) k.1
     ∙ mul-mul-mul_comm a (down e) b (down d))
+mul_is nan y s t a b h k = elim h [ ]
+mul_is (inf _) y s t a b h k = elim h [ ]
+mul_is (fin u m e) nan s t a b h k = elim k [ ]
+mul_is (fin u m e) (inf _) s t a b h k = elim k [ ]
 
 pub div_is : (x y : Float) (s t : Bool) (a b : ℕ) → Is x s a → Is y t b → 0 < b → div B x y ≡ round B (unlike s t) a b
 unfolding div
@@ -341,6 +375,10 @@ div_is (fin u m e) (fin v n d) s t a b h k p =
   where
     swap : (a b w : ℕ) → a * w * b ≡ a * (b * w)
     swap a b w = omega arith
+div_is nan y s t a b h k p = elim h [ ]
+div_is (inf _) y s t a b h k p = elim h [ ]
+div_is (fin u m e) nan s t a b h k p = elim k [ ]
+div_is (fin u m e) (inf _) s t a b h k p = elim k [ ]
 
 scaled-lt : (A B' a b c w : ℕ) → A * c ≡ a * w → B' * c ≡ b * w → 0 < w → a < b → A < B'
 scaled-lt A B' a b c w p q W l =
@@ -392,6 +430,10 @@ add_is (fin u m e) (fin v n d) s t a b h k =
     ∙ sum_same s t (m * up e * down d) (n * up d * down e) (down e * down d) a b
     (over (m * up e) a (down e) (down d) h.1) (over' (n * up d) b (down e) (down d) k.1)
     (mul-pos (down_pos e) (down_pos d))
+add_is nan y s t a b h k = elim h [ ]
+add_is (inf _) y s t a b h k = elim h [ ]
+add_is (fin u m e) nan s t a b h k = elim k [ ]
+add_is (fin u m e) (inf _) s t a b h k = elim k [ ]
 
 -- the exact sum has the sign σ and the size δ
 pub record Sum (s : Bool) (a : ℕ) (t : Bool) (b : ℕ) : Type 0 where

@@ -72,11 +72,13 @@ abs_keeps : (y : Float) → T (not (is_nan y)) → T (not (is_nan (abs y)))
 unfolding is_nan abs
 abs_keeps (inf s) n = tt
 abs_keeps (fin s m e) n = tt
+abs_keeps nan n = elim n [ ]
 
 signum_keeps : (y : Float) → T (not (is_nan y)) → T (not (is_nan (signum y)))
 unfolding is_nan signum
 signum_keeps (inf s) n = tt
 signum_keeps (fin s m e) n = tt
+signum_keeps nan n = elim n [ ]
 
 signed_one : (y : Float) → T (not (is_nan y)) → of_bits binary64 (cond (sign_bit y) 1 0 * 9223372036854775808 + 4607182418800017408) ≡ signum y
 unfolding is_nan sign_bit signum of_bits
@@ -84,6 +86,7 @@ signed_one (inf false) n = refl
 signed_one (inf true) n = refl
 signed_one (fin false m e) n = refl
 signed_one (fin true m e) n = refl
+signed_one nan n = elim n [ ]
 
 -- ---- the same of a value, by its pattern
 module _ (x : Float) (f : T (fits binary64 x)) where

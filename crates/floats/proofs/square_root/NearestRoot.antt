@@ -221,6 +221,8 @@ nearest-units n c v h = (up-side, λ (l : c < root_units v). down-side l (parity
 finite_of : (x : Float) (s : Bool) (n : ℕ) → Is x s n → T (is_finite x)
 unfolding is_finite
 finite_of (fin t m e) s n h = tt
+finite_of lib.Ieee.nan s n h = elim h [ ]
+finite_of (lib.Ieee.inf _) s n h = elim h [ ]
 
 root-near : (x : Float) (n : ℕ) → Is x false n → Held n → 0 < n → NearestRoot x (root_of_units binary64 n)
 unfolding is_finite U
@@ -263,6 +265,8 @@ root-near x n i held p = record {
         let y = fin s m e in
         let k = is_of y tt t in
         (mag y, size_of y s (mag y) k.0, nearest-units n (mag y) v k.1.0)
+    against lib.Ieee.nan f t = elim f [ ]
+    against (lib.Ieee.inf _) f t = elim f [ ]
 
 above_zero : (x : Float) → T (is_finite x) → T (fits binary64 x) → T (lt f0 x) → NearestRoot x (sqrt x)
 unfolding is_finite lt
@@ -274,6 +278,9 @@ above_zero (fin false (suc m) e) f t l =
     let x = fin false (suc m) e in
     let i = is_of x tt t in
     subst (λ (z : Float). NearestRoot x z) (sym (root_by-units m e)) (root-near x (mag x) i.0 i.1 (units_pos m (mag x) e i.0.1))
+above_zero lib.Ieee.nan f t l = elim f [ ]
+above_zero (lib.Ieee.inf _) f t l = elim f [ ]
+above_zero (fin mathlib.Core.Bool.true _ e) f t l = elim l [ ]
 
 pub nearest-root : SquareRoot sqrt
 unfolding square_root

@@ -161,6 +161,8 @@ root_by-units m e = refl
 pub size_of : (x : Float) (s : Bool) (n : ℕ) → Is x s n → Size x n
 unfolding U
 size_of (fin t m e) s n h = h.1
+size_of nan s n h = elim h [ ]
+size_of (inf _) s n h = elim h [ ]
 
 -- ---- `by_digits`: the other values. 0.0 and the infinity stand there by their bit patterns
 pub zero_bits : of_bits B 0 ≡ fin false 0 (pos 0)
@@ -191,6 +193,8 @@ below_zero (inf true) t = refl
 below_zero (fin true (suc m) e) t = refl
 below_zero (fin true zero e) t = absurd (omega (arith, ltb→lt 0 (0 * up e * 1 + 0 * 1 * down e) t))
 below_zero (fin false m e) t = absurd (none_below (m * up e * 1) (down e) (ltb→lt (m * up e * 1) (0 * 1 * down e) t))
+below_zero nan t = elim t [ ]
+below_zero (inf false) t = elim t [ ]
 
 pub negative_case : (x : Float) → lt x (of_bits B 0) ≡ true → div B (of_bits B 0) (of_bits B 0) ≡ square_root B x
 negative_case x e =
@@ -207,6 +211,8 @@ at_zero (fin true (suc m) e) t n =
 at_zero (fin false (suc m) e) t n =
     absurd (lt_irrefl 0 (lt_of_lt_of_le (mul-pos (zero-lt-suc m) (up_pos e))
     (omega (arith, test→below false false (suc m * up e * 1) (0 * 1 * down e) t))))
+at_zero nan t n = elim t [ ]
+at_zero (inf false) t n = elim t [ ]
 
 pub zero_case : (x : Float) → le x (of_bits B 0) ≡ true → lt x (of_bits B 0) ≡ false → x ≡ square_root B x
 zero_case x e f =
@@ -216,6 +222,9 @@ zero_case x e f =
 at_inf : (x : Float) → T (eq x (inf false)) → x ≡ square_root B x
 unfolding square_root eq
 at_inf (inf false) t = refl
+at_inf nan t = elim t [ ]
+at_inf (inf true) t = elim t [ ]
+at_inf (fin _ _ _) t = elim t [ ]
 
 pub inf_case : (x : Float) → eq x (of_bits B inf_pattern) ≡ true → x ≡ square_root B x
 inf_case x e = at_inf x (subst (λ (z : Float). T (eq x z)) inf_bits (passes (eq x (of_bits B inf_pattern)) e))

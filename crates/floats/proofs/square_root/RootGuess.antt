@@ -59,7 +59,13 @@ above_zero x e = go x (subst (λ (z : Float). T (lt z x)) zero_bits (passes (lt 
     go (inf false) t = (tt, λ (h : 2047 < 2047). absurd (lt_irrefl 2047 h))
     go (fin false zero i) t = absurd (omega (arith, ltb→lt (0 * 1 * down i) (0 * up i * 1) t))
     go (fin false (suc m) i) t = (tt, λ h. lt→ltb 0 (suc m) (zero-lt-suc m))
+    go lib.Ieee.nan t = elim t [ ]
+    go (inf true) t = elim t [ ]
+    go (fin true _ i) t = elim t [ ]
 
 pub positive_number : (x : Float) → T (positive x) → T (not (is_nan x))
 unfolding is_nan
 positive_number (fin false m i) t = tt
+positive_number lib.Ieee.nan t = elim t [ ]
+positive_number (inf _) t = elim t [ ]
+positive_number (fin true m i) t = elim t [ ]

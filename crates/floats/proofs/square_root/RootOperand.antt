@@ -121,9 +121,17 @@ opened (fin false (suc m) e) p f =
       root_by-units m e,
       tt,
     )
+opened lib.Ieee.nan p f = elim p [ ]
+opened (lib.Ieee.inf _) p f = elim p [ ]
+opened (fin false zero e) p f = elim p [ ]
+opened (fin mathlib.Core.Bool.true _ e) p f = elim p [ ]
 
 units_of : (x : Float) → T (positive x) → T (fits B x) → Is x false (mag x)
 units_of (fin false (suc m) e) p f = (is_of (fin false (suc m) e) tt f).0
+units_of lib.Ieee.nan p f = elim p [ ]
+units_of (lib.Ieee.inf _) p f = elim p [ ]
+units_of (fin false zero e) p f = elim p [ ]
+units_of (fin mathlib.Core.Bool.true _ e) p f = elim p [ ]
 
 -- an operand of the units is one of x
 scaled_from : (x : Float) (d e : ℕ) (a : Operand) → T (positive x) → T (fits B x) → mag x * 2 ^ 1074 ≡ d * 2 ^ e → Placed d e a → Scaled x a
@@ -161,6 +169,9 @@ normal-scaled x a p f q w =
 is_size : (x : Float) (n : ℕ) → T (positive x) → Size x n → Is x false n
 unfolding U
 is_size (fin false m e) n p h = (refl, h)
+is_size lib.Ieee.nan n p h = elim p [ ]
+is_size (lib.Ieee.inf _) n p h = elim p [ ]
+is_size (fin mathlib.Core.Bool.true m e) n p h = elim p [ ]
 
 pub root-scaled : (a : Operand) (r : Float) → RootFrom a.m a.h r → RootOf a r
 root-scaled a r g x s =

@@ -36,6 +36,9 @@ pub above : (x : Float) → T (lt f0 x) → max x f0 ≡ x
 unfolding max lt is_nan
 above (inf false) t = refl
 above (fin false m e) t = max_pos m e
+above nan t = elim t [ ]
+above (inf true) t = elim t [ ]
+above (fin true m e) t = elim t [ ]
 
 -- a zero is equal to 0, whatever its sign
 zero_equal : (s : Bool) (e : ℤ) → T (eq (fin s zero e) f0)
@@ -48,6 +51,8 @@ unfolding max lt eq is_nan square_root
 at_zero (fin s (suc m) e) t = absurd (omega (arith, mul-pos (zero-lt-suc m) (up_pos e), eqb→eq (suc m * up e * 1) (0 * 1 * down e) (and_l (eqb (suc m * up e * 1) (0 * 1 * down e)) _ t)))
 at_zero (fin false zero e) t = rw (not_below (0 * up e * 1) (down e))
 at_zero (fin true zero e) t = rw (is_false (ltb 0 (0 * up e * 1 + 0 * 1 * down e)) (le→nltb 0 (0 * up e * 1 + 0 * 1 * down e) (omega arith)))
+at_zero nan t = elim t [ ]
+at_zero (inf _) t = elim t [ ]
 
 pub below : (x : Float) → (T (lt f0 x) → ⊥) → (T (eq x f0) → ⊥) → f0 ≡ sqrt (max x f0)
 unfolding max lt eq is_nan square_root
@@ -72,6 +77,8 @@ root-val (fin false (suc m) e) n f i p =
     let y = fin false (suc m) e in
     let same = (is_same y false false (mag y) n (is_of y tt f).0 i).1 in
     (root_by-units m e ∙ ap (λ (z : ℕ). root_of_units B z) same, max_pos (suc m) e)
+root-val nan n f i p = elim i [ ]
+root-val (inf _) n f i p = elim i [ ]
 
 pub record Rooted (y : Float) (n : ℕ) : Type 0 where
   pub kept : max y f0 ≡ y

@@ -5,4 +5,4 @@ use Rattle.floats.proofs.float.clamp.Tie as tie
 
 pub clamp_spec : {M : Type 1} → statement M
 unfolding clamp
-clamp_spec = tie.close (tie.spec (λ c. rw c.if1.true) (λ c. rw (c.before.if1.false, c.if2.true)) (λ c. rw (c.before.if1.false, c.if2.false)))
+clamp_spec = tie.close (tie.spec (λ c. rw c.if-x-lo.true) (λ c. rw (c.before.if-x-lo.false, c.if-x-hi.true)) (λ c. rw (c.before.if-x-lo.false, c.if-x-hi.false)))

@@ -6,5 +6,5 @@ use Rattle.floats.proofs.float.max.Tie as tie
 
 pub max_spec : {M : Type 1} → statement M
 unfolding max
-max_spec = tie.close (tie.spec (λ c. rw (← nan-test, c.if1.true)) (λ c. rw (← nan-test, c.before.if1.false, c.if2.true))
-    (λ c. rw (← nan-test, c.before.if1.false, c.if2.false)))
+max_spec = tie.close (tie.spec (λ c. rw (← nan-test, c.if-x.true)) (λ c. rw (← nan-test, c.before.if-x.false, c.if-x-y.true))
+    (λ c. rw (← nan-test, c.before.if-x.false, c.if-x-y.false)))

@@ -6,5 +6,5 @@ use Rattle.floats.proofs.float.min.Tie as tie
 
 pub min_spec : {M : Type 1} → statement M
 unfolding min
-min_spec = tie.close (tie.spec (λ c. rw (← nan-test, c.if1.true)) (λ c. rw (← nan-test, c.before.if1.false, c.if2.true))
-    (λ c. rw (← nan-test, c.before.if1.false, c.if2.false)))
+min_spec = tie.close (tie.spec (λ c. rw (← nan-test, c.if-x.true)) (λ c. rw (← nan-test, c.before.if-x.false, c.if-y-x.true))
+    (λ c. rw (← nan-test, c.before.if-x.false, c.if-y-x.false)))

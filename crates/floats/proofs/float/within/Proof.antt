@@ -5,4 +5,4 @@ use Rattle.floats.proofs.float.within.Tie as tie
 
 pub within_spec : {M : Type 1} → statement M
 unfolding within
-within_spec = tie.close (tie.spec (λ c. rw c.if1.true) (λ c. rw c.if1.false))
+within_spec = tie.close (tie.spec (λ c. rw c.if-lo-x.true) (λ c. rw c.if-lo-x.false))

@@ -7,31 +7,31 @@ use Rattle.floats.proofs.square_root.RootDigits.{ready, turn}
 use Rattle.floats.proofs.square_root.digits.Statement.{statement}
 use Rattle.floats.proofs.square_root.digits.Tie as tie
 
-abbrev invariant-loop : tie.invariant-loop
+abbrev invariant-loop : tie.invariant-loop-i
 invariant-loop m s₀ i₀ s i = (s ≡ after 53 (m * 2 ^ 52) i) × (i ≤ 53)
 
-abbrev decreases-loop : tie.decreases-loop
+abbrev decreases-loop : tie.decreases-loop-i
 decreases-loop m s₀ i₀ s i = 53 - i
 
-loop-holds : tie.Need-loop-init invariant-loop decreases-loop
+loop-holds : tie.Need-loop-i-init invariant-loop decreases-loop
 unfolding after
 loop-holds c = (refl, omega arith)
 
-digit-requires : tie.Need-digit-requires invariant-loop decreases-loop
+digit-requires : tie.Need-digit-s-requires invariant-loop decreases-loop
 digit-requires c κs =
-    let l = c.before.before.loop in
-    ready c.before.before.before.args.m l.i c.two-bits.result l.s l.invariant.0 c.two-bits.ensures (omega arith) (omega arith)
+    let l = c.before.before.loop-i in
+    ready c.before.before.before.args.m l.i c.two_bits.result l.s l.invariant.0 c.two_bits.ensures (omega arith) (omega arith)
 
-loop-again : tie.Need-loop-preserved invariant-loop decreases-loop
+loop-again : tie.Need-loop-i-preserved invariant-loop decreases-loop
 loop-again c =
-    let l = c.before.before.before.loop in
-    let w = c.before.two-bits in
+    let l = c.before.before.before.loop-i in
+    let w = c.before.two_bits in
     let m = c.before.before.before.before.args.m in
-    (turn m l.i w.result l.s l.invariant.0 w.ensures c.digit.result c.digit.ensures, omega arith)
+    (turn m l.i w.result l.s l.invariant.0 w.ensures c.digit-s.result c.digit-s.ensures, omega arith)
 
 returns : tie.Need-returns invariant-loop decreases-loop
 returns c =
-    let l = c.before.loop in
+    let l = c.before.loop-i in
     l.invariant.0 ∙ ap (after 53 (c.before.before.args.m * 2 ^ 52)) (let e : l.i ≡ 53 = omega arith in e)
 
 pub digits_spec : {M : Type 1} → statement M

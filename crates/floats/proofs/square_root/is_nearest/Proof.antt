@@ -8,7 +8,7 @@ use Rattle.floats.proofs.square_root.RootGuess.{ab-le, aa_le, bb_le, nearest_by-
 use Rattle.floats.proofs.square_root.is_nearest.Statement.{statement}
 use Rattle.floats.proofs.square_root.is_nearest.Tie as tie
 
-returns-6 : tie.Need-returns-6
+returns-6 : tie.Need-returns
 returns-6 c =
     let z = c.before.before.before.before.before in
     let m = z.args.m in

@@ -11,7 +11,7 @@ use Rattle.floats.proofs.square_root.RootOperand.{root-scaled}
 use Rattle.floats.proofs.square_root.is_root.Statement.{statement}
 use Rattle.floats.proofs.square_root.is_root.Tie as tie
 
-returns-3 : tie.Need-returns-3
+returns-3 : tie.Need-returns
 returns-3 c =
     let k = c.before.before.before.before in
     let g = k.args.g in
@@ -23,8 +23,8 @@ returns-3 c =
     λ t.
     root-scaled a g
     (subst (RootFrom a.m a.h) (ap (of_bits binary64) same ∙ of_bits-to_bits binary64 g k.requires.0)
-    (nearest-pattern q a.m a.h (c.is-nearest.ensures t) r.0 r.1 r.2 r.3))
+    (nearest-pattern q a.m a.h (c.is_nearest.ensures t) r.0 r.1 r.2 r.3))
 
 pub is_root_spec : {M : Type 1} → statement M
-is_root_spec = tie.close (tie.spec (λ c. λ h. absurd h) (λ c. not_nan c.before.args.g c.if1.false) (λ c. search rules) (λ c. λ h. absurd h)
+is_root_spec = tie.close (tie.spec (λ c. λ h. absurd h) (λ c. not_nan c.before.args.g c.if-g.false) (λ c. search rules) (λ c. λ h. absurd h)
     (λ c. search rules) (λ c κs. omega arith) returns-3)

@@ -14,30 +14,30 @@ use denote.Floats.{passes}
 
 -- an f64 is a value of the format
 of_format : (c : tie.Start) → T (fits binary64 c.args.x)
-of_format c = passes (fits binary64 c.args.x) c.well-formed.0.1
+of_format c = passes (fits binary64 c.args.x) c.well_formed.0.1
 
-lacking-requires : tie.Need-lacking-requires
+lacking-requires : tie.Need-lacking-z-requires
 lacking-requires c κs =
     let u = (opened c.before.args.x c.before.requires (of_format c.before)).0 in
-    let e = u.low c.if1.true in
+    let e = u.low c.if-f-eq0.true in
     let p = u.some in
     omega arith
 
-returns : tie.Need-returns
+returns : tie.Need-returns-then-f-eq0
 returns c =
     let k = c.before.before.before in
     let x = k.args.x in
-    let z = c.before.lacking.result in
+    let z = c.before.lacking-z.result in
     let t = to_bits binary64 x % 2 ^ 52 in
     let a = c.placed.result in
-    let e : t * 2 ^ z % 2 ^ 64 ≡ t * 2 ^ z = mod-eq_of_lt (lt_of_lt_of_le c.before.lacking.ensures.2 (lit≤ tt)) in
-    subnormal_scaled x z a k.requires (of_format k) c.before.before.if1.true c.before.lacking.ensures.0
+    let e : t * 2 ^ z % 2 ^ 64 ≡ t * 2 ^ z = mod-eq_of_lt (lt_of_lt_of_le c.before.lacking-z.ensures.2 (lit≤ tt)) in
+    subnormal_scaled x z a k.requires (of_format k) c.before.before.if-f-eq0.true c.before.lacking-z.ensures.0
     (subst (λ (y : ℕ). Placed y (1074 - z) a) e c.placed.ensures)
 
-returns-2 : tie.Need-returns-2
+returns-2 : tie.Need-returns
 returns-2 c =
     let k = c.before.before in
-    normal-scaled k.args.x c.placed2.result k.requires (of_format k) c.before.if1.false c.placed2.ensures
+    normal-scaled k.args.x c.placed-2.result k.requires (of_format k) c.before.if-f-eq0.false c.placed-2.ensures
 
 pub scale_spec : {M : Type 1} → statement M
 scale_spec = tie.close (tie.spec (λ c. (opened c.args.x c.requires (of_format c)).2) lacking-requires (λ c. search rules) (λ c. search rules)

@@ -11,7 +11,7 @@ add_result : tie.Need-overflow-add-result
 unfolding of_bits
 add_result c =
     let x = c.before.before.before.before.before.args.x in
-    record { fits = rw c.before.before.truncating-f64-to-u64.ensures (room x (passes (fits binary64 x) c.before.before.before.before.before.well-formed.0.1) (passes _ c.before.before.before.if2.true)) }
+    record { fits = rw c.before.before.truncating-f64-to-u64.ensures (room x (passes (fits binary64 x) c.before.before.before.before.before.well_formed.0.1) (passes _ c.before.before.before.if2.true)) }
 
 pub any_ceiling_spec : {M : Type 1} → statement M
 unfolding neg of_bits ceiling
