@@ -280,6 +280,8 @@ eq_self (fin s m e) f =
     same : (s : Bool) → T (beq s s)
     same false = tt
     same true = tt
+eq_self lib.Ieee.nan f = elim f [ ]
+eq_self (lib.Ieee.inf _) f = elim f [ ]
 
 module _ (step : Float) (s n : ℕ) (g : Grid s n) (i : Is step false (s * U)) where
   s0 : 0 < s

@@ -212,6 +212,7 @@ small_units (fin false m e) f l h =
     let x = fin false m e in
     let i = (is_of x tt f).0 in
     (i, (lt-units f1 x U (mag x) unit_is i).0 l, (lt-units x small_end (mag x) (2 ^ 51 * U) i end-units).0 h)
+small_units lib.Ieee.nan f l h = elim l [ ]
 
 -- what `small_ceiling` computes: the last digits of the sum's pattern are the ceiling, or one less
 abbrev number : Float → ℕ

@@ -40,6 +40,8 @@ room (fin false m (negsuc k)) f l =
     let d = digits m (negsuc k) f in
     let q = le_trans (min-le_left (m * 1 / 2 ^ suc k) (2 ^ 64 - 1)) (div-le_self (m * 1) (2 ^ suc k)) in
     omega arith
+room nan f l = elim l [ ]
+room (inf false) f l = elim l [ ]
 
 -- ---- whole numbers, and `<`, by units
 pub held_whole : (k : ℕ) → k < 2 ^ 53 → rnd 53 (k * U) 1 ≡ k * U
@@ -65,11 +67,17 @@ lt-units (fin false m e) (fin false n d) a b i k =
       λ (t : T (ltb x y)). lt_of_mul-lt-mul_right dd (lt_of_le_of_lt (le_of_eq (sym ex)) (lt_of_lt_of_le (mul-lt-mul_of_pos_right (ltb→lt x y t) U_pos) (le_of_eq ey))),
       λ (t : T (not (ltb x y))). le_of_mul-le-mul_right {k = dd} (le_trans (le_of_eq (sym ey)) (le_trans (mul-le-mul_right U (nltb→le x y t)) (le_of_eq ex))) dd0,
     )
+lt-units nan y a b i k = elim i [ ]
+lt-units (inf _) y a b i k = elim i [ ]
+lt-units (fin false m e) nan a b i k = elim k [ ]
+lt-units (fin false m e) (inf _) a b i k = elim k [ ]
 
 lt_negative : (x : Float) (a m : ℕ) (e : ℤ) → Is x false a → T (lt x (fin true m e)) → ⊥
 unfolding lt
 lt_negative (fin true n d) a m e i t = absurd (true≢false i.0)
 lt_negative (fin false n d) a m e i t = t
+lt_negative nan a m e i t = elim i [ ]
+lt_negative (inf _) a m e i t = elim i [ ]
 
 -- the whole part c of a / d, where a / d is n / U
 floor_low : (n a c d u : ℕ) → a * u ≡ n * d → c * d ≤ a → 0 < d → c * u ≤ n
@@ -120,3 +128,4 @@ ceiling_is (fin false m e) n h l =
         → let k = cond b (cond t (c + 1) c) 0 in (n ≤ k * U) × (k * U < n + U)
     chosen true true c n b f g l h = let above = f tt in (omega arith, omega arith)
     chosen true false c n b f g l h = (g tt, omega (arith, U_pos))
+    chosen false t c n b f g l h = elim b [ ]

@@ -8,4 +8,4 @@ use Rattle.numbers.proofs.checked.check_direction.Tie as tie
 pub check_direction_spec : {M : Type 1} → statement M
 unfolding check_direction number
 check_direction_spec = tie.close (tie.spec (λ c κs. search rules) (λ c κs. search rules)
-    (λ c. rw (← c.before.is-direction.ensures, ← c.refuse.ensures)))
+    (λ c. rw (← c.before.is_direction.ensures, ← c.refuse.ensures)))

@@ -8,4 +8,4 @@ use Rattle.numbers.proofs.checked.check_lookup.Tie as tie
 pub check_lookup_spec : {M : Type 1} → statement M
 unfolding check_lookup number
 check_lookup_spec = tie.close (tie.spec (λ c κs. search rules) (λ c κs. search rules)
-    (λ c. rw (← c.before.is-lookup-wavelength.ensures, ← c.refuse.ensures)))
+    (λ c. rw (← c.before.is_lookup_wavelength.ensures, ← c.refuse.ensures)))

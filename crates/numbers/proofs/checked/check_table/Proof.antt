@@ -7,4 +7,4 @@ use Rattle.numbers.proofs.checked.check_table.Tie as tie
 
 pub check_table_spec : {M : Type 1} → statement M
 unfolding check_table number
-check_table_spec = tie.close (tie.spec (λ c κs. search rules) (λ c κs. search rules) (λ c. rw (← c.before.table-holds.ensures, ← c.refuse.ensures)))
+check_table_spec = tie.close (tie.spec (λ c κs. search rules) (λ c κs. search rules) (λ c. rw (← c.before.table_holds.ensures, ← c.refuse.ensures)))

@@ -8,4 +8,4 @@ use Rattle.numbers.proofs.checked.check_wavelength.Tie as tie
 pub check_wavelength_spec : {M : Type 1} → statement M
 unfolding check_wavelength number
 check_wavelength_spec = tie.close (tie.spec (λ c κs. search rules) (λ c κs. search rules)
-    (λ c. rw (← c.before.is-wavelength.ensures, ← c.refuse.ensures)))
+    (λ c. rw (← c.before.is_wavelength.ensures, ← c.refuse.ensures)))

@@ -8,5 +8,5 @@ use Rattle.numbers.proofs.checked.cos_phi.Tie as tie
 pub cos_phi_spec : {M : Type 1} → statement M
 unfolding of_direction float_answer verdict ◌▷◌
 cos_phi_spec = tie.close (tie.spec (λ c κs. search rules) (λ c. search rules)
-    (λ c. rw (← c.before.before.before.check-direction.ensures, c.before.why.given.1)) (λ c. search rules) (λ c κs. search rules)
-    (λ c. rw (← c.before.before.before.check-direction.ensures, c.before.enum_told.given.1, ← c.cos_phi_lem.ensures)))
+    (λ c. rw (← c.before.before.before.check_direction.ensures, c.before.why-1.given.1)) (λ c. search rules) (λ c κs. search rules)
+    (λ c. rw (← c.before.before.before.check_direction.ensures, c.before.enum_told-1.given.1, ← c.cos_phi_lem.ensures)))

@@ -9,7 +9,7 @@ pub lookup_spec : {M : Type 1} → statement M
 unfolding lookup float_answer verdict ◌▷◌
 lookup_spec = tie.close (tie.spec (λ c κs. search rules) (λ c κs. search rules) (λ c κs. search rules) (λ c. search rules)
     (λ c. let p = c.before.before.before in
-    rw (← p.before.before.check-table.ensures, ← p.before.check-lookup.ensures, ← p.then.ensures, c.before.why.given.1))
+    rw (← p.before.before.check_table.ensures, ← p.before.check_lookup.ensures, ← p.then.ensures, c.before.why-1.given.1))
     (λ c. search rules) (λ c κs. search rules)
     (λ c. let p = c.before.before.before in
-    rw (← p.before.before.check-table.ensures, ← p.before.check-lookup.ensures, ← p.then.ensures, c.before.enum_told.given.1, ← c.sample-one.ensures)))
+    rw (← p.before.before.check_table.ensures, ← p.before.check_lookup.ensures, ← p.then.ensures, c.before.enum_told-1.given.1, ← c.sample_one.ensures)))

@@ -5,13 +5,13 @@ use Rattle.numbers.proofs.dense_spectrum.Every.{Rest, rest-start, rest-next, res
 use Rattle.numbers.proofs.dense_spectrum.all_equal.Statement.{statement}
 use Rattle.numbers.proofs.dense_spectrum.all_equal.Tie as tie
 
-abbrev invariant-loop : tie.invariant-loop
+abbrev invariant-loop : tie.invariant-loop-i
 invariant-loop first values ok₀ i₀ ok i = Rest (eq first) values i ok
 
-abbrev decreases-loop : tie.decreases-loop
+abbrev decreases-loop : tie.decreases-loop-i
 decreases-loop first values ok₀ i₀ ok i = length values - i
 
 pub all_equal_spec : {M : Type 1} → statement M
 all_equal_spec = tie.close (tie.spec invariant-loop decreases-loop (λ c. rest-start _ _) (λ c. search rules) (λ c. search rules)
-    (λ c. omega arith) (λ c. omega arith) (λ c. let l = c.before.before.loop in rest-next _ _ l.i l.ok nan l.invariant (omega arith))
-    (λ c. let l = c.before.loop in sym (rest-ends _ _ l.i l.ok l.invariant (omega arith))))
+    (λ c. omega arith) (λ c. omega arith) (λ c. let l = c.before.before.loop-i in rest-next _ _ l.i l.ok nan l.invariant (omega arith))
+    (λ c. let l = c.before.loop-i in sym (rest-ends _ _ l.i l.ok l.invariant (omega arith))))

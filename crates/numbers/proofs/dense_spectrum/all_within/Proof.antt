@@ -7,17 +7,17 @@ use Rattle.numbers.proofs.dense_spectrum.Every.{Rest, rest-start, rest-next, res
 use Rattle.numbers.proofs.dense_spectrum.all_within.Statement.{statement}
 use Rattle.numbers.proofs.dense_spectrum.all_within.Tie as tie
 
-abbrev invariant-loop : tie.invariant-loop
+abbrev invariant-loop : tie.invariant-loop-i
 invariant-loop values lo hi ok₀ i₀ ok i = Rest (within lo hi) values i ok
 
-abbrev decreases-loop : tie.decreases-loop
+abbrev decreases-loop : tie.decreases-loop-i
 decreases-loop values lo hi ok₀ i₀ ok i = length values - i
 
-loop-again : tie.Need-loop-preserved invariant-loop decreases-loop
-loop-again c = let l = c.before.before.before.loop in rw c.within.ensures (rest-next _ _ l.i l.ok nan l.invariant (omega arith))
+loop-again : tie.Need-loop-i-preserved invariant-loop decreases-loop
+loop-again c = let l = c.before.before.before.loop-i in rw c.within-ok.ensures (rest-next _ _ l.i l.ok nan l.invariant (omega arith))
 
 pub all_within_spec : {M : Type 1} → statement M
 unfolding all_within
 all_within_spec = tie.close (tie.spec invariant-loop decreases-loop (λ c. rest-start _ _) (λ c. search rules) (λ c. search rules) (λ c κs. search rules)
     (λ c. omega arith) (λ c. omega arith) loop-again
-    (λ c. let l = c.before.loop in sym (rest-ends _ _ l.i l.ok l.invariant (omega arith))))
+    (λ c. let l = c.before.loop-i in sym (rest-ends _ _ l.i l.ok l.invariant (omega arith))))

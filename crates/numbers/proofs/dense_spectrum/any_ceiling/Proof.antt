@@ -11,13 +11,13 @@ add_result : tie.Need-overflow-add-result
 unfolding of_bits
 add_result c =
     let x = c.before.before.before.before.before.args.x in
-    record { fits = rw c.before.before.truncating-f64-to-u64.ensures (room x (passes (fits binary64 x) c.before.before.before.before.before.well_formed.0.1) (passes _ c.before.before.before.if2.true)) }
+    record { fits = rw c.before.before.truncating_f64_to_u64-floor.ensures (room x (passes (fits binary64 x) c.before.before.before.before.before.well_formed.0.1) (passes _ c.before.before.before.if-x-2.true)) }
 
 pub any_ceiling_spec : {M : Type 1} → statement M
 unfolding neg of_bits ceiling
-any_ceiling_spec = tie.close (tie.spec (λ c κs. (passes _ c.before.if1.true, passes _ c.if2.true)) (λ c κs. search rules) add_result
+any_ceiling_spec = tie.close (tie.spec (λ c κs. (passes _ c.before.if-x.true, passes _ c.if-x-2.true)) (λ c κs. search rules) add_result
     (λ c. let p = c.before.before in
-    rw (p.before.before.if1.true, p.before.if2.true, ← p.truncating-f64-to-u64.ensures, ← c.before.nearest-u64-to-f64.ensures, c.if3.true))
+    rw (p.before.before.if-x.true, p.before.if-x-2.true, ← p.truncating_f64_to_u64-floor.ensures, ← c.before.nearest_u64_to_f64.ensures, c.if-nearest_u64_to_f64-x.true))
     (λ c. let p = c.before.before in
-    rw (p.before.before.if1.true, p.before.if2.true, ← p.truncating-f64-to-u64.ensures, ← c.before.nearest-u64-to-f64.ensures, c.if3.false))
-    (λ c. rw (c.before.if1.true, c.if2.false)) (λ c. rw c.if1.false))
+    rw (p.before.before.if-x.true, p.before.if-x-2.true, ← p.truncating_f64_to_u64-floor.ensures, ← c.before.nearest_u64_to_f64.ensures, c.if-nearest_u64_to_f64-x.false))
+    (λ c. rw (c.before.if-x.true, c.if-x-2.false)) (λ c. rw c.if-x.false))

@@ -5,7 +5,7 @@ use lib.ListN.{get_or-eq_default}
 use Rattle.numbers.proofs.dense_spectrum.entry.Statement.{statement}
 use Rattle.numbers.proofs.dense_spectrum.entry.Tie as tie
 
-returns-2 : tie.Need-returns-2
+returns-2 : tie.Need-returns
 returns-2 c = c.nan.ensures ∙ sym (get_or-eq_default c.before.before.before.args.values.now nan {n = c.before.before.before.args.i} (omega arith))
 
 pub entry_spec : {M : Type 1} → statement M

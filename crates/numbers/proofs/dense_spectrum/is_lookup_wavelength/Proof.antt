@@ -7,5 +7,5 @@ use Rattle.numbers.proofs.dense_spectrum.is_lookup_wavelength.Tie as tie
 
 pub is_lookup_wavelength_spec : {M : Type 1} → statement M
 unfolding is_lookup_wavelength of_bits
-is_lookup_wavelength_spec = tie.close (tie.spec (λ c κs. search rules) (λ c. rw c.if1.true)
-    (λ c. rw (c.before.if1.false, ← c.is-wavelength.ensures)))
+is_lookup_wavelength_spec = tie.close (tie.spec (λ c κs. search rules) (λ c. rw c.if-lambda.true)
+    (λ c. rw (c.before.if-lambda.false, ← c.is_wavelength.ensures)))

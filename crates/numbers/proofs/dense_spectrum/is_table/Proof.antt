@@ -6,4 +6,4 @@ use Rattle.numbers.proofs.dense_spectrum.is_table.Tie as tie
 
 pub is_table_spec : {M : Type 1} → statement M
 unfolding is_table
-is_table_spec = tie.close (tie.spec (λ c. rw (eq-eqb _ _ c.if1.true)) (λ c. rw (ne_eqb _ _ c.if1.false)))
+is_table_spec = tie.close (tie.spec (λ c. rw (eq-eqb _ _ c.if-values-eq-SAMPLES.true)) (λ c. rw (ne_eqb _ _ c.if-values-eq-SAMPLES.false)))

@@ -5,4 +5,4 @@ use Rattle.numbers.proofs.refusal.refuse.Tie as tie
 
 pub refuse_spec : {M : Type 1} → statement M
 unfolding refuse verdict
-refuse_spec = tie.close (tie.spec (λ c. rw c.if1.true) (λ c. rw c.if1.false))
+refuse_spec = tie.close (tie.spec (λ c. rw c.if-holds.true) (λ c. rw c.if-holds.false))

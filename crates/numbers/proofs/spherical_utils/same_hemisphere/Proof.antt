@@ -8,4 +8,4 @@ use Rattle.numbers.proofs.spherical_utils.same_hemisphere.Tie as tie
 pub same_hemisphere_spec : {M : Type 1} → statement M
 unfolding same_hemisphere of_bits
 same_hemisphere_spec = tie.close (tie.spec (λ c κs. search rules) (λ c κs. search rules)
-    (λ c. rw (← c.before.cos-theta.ensures, ← c.cos-theta2.ensures)))
+    (λ c. rw (← c.before.cos_theta.ensures, ← c.cos_theta-2.ensures)))

@@ -7,4 +7,4 @@ use Rattle.numbers.proofs.spherical_utils.sin2_theta.Tie as tie
 
 pub sin2_theta_spec : {M : Type 1} → statement M
 unfolding sin2_theta of_bits
-sin2_theta_spec = tie.close (tie.spec (λ c κs. search rules) (λ c κs. search rules) (λ c. rw (← c.before.cos2-theta.ensures, ← c.max.ensures)))
+sin2_theta_spec = tie.close (tie.spec (λ c κs. search rules) (λ c κs. search rules) (λ c. rw (← c.before.cos2_theta.ensures, ← c.max.ensures)))

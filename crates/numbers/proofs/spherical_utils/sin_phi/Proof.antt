@@ -7,5 +7,5 @@ use Rattle.numbers.proofs.spherical_utils.sin_phi.Tie as tie
 
 pub sin_phi_spec : {M : Type 1} → statement M
 unfolding sin_phi of_bits neg
-sin_phi_spec = tie.close (tie.spec (λ c κs. search rules) (λ c. rw (← c.before.sin-theta.ensures, c.if1.true)) (λ c κs. search rules)
-    (λ c. rw (← c.before.before.before.sin-theta.ensures, c.before.before.if1.false, ← c.clamp.ensures)))
+sin_phi_spec = tie.close (tie.spec (λ c κs. search rules) (λ c. rw (← c.before.sin_theta-sin.ensures, c.if-sin.true)) (λ c κs. search rules)
+    (λ c. rw (← c.before.before.before.sin_theta-sin.ensures, c.before.before.if-sin.false, ← c.clamp.ensures)))

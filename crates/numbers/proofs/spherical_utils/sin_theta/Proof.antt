@@ -6,4 +6,4 @@ use Rattle.numbers.proofs.spherical_utils.sin_theta.Tie as tie
 
 pub sin_theta_spec : {M : Type 1} → statement M
 unfolding sin_theta
-sin_theta_spec = tie.close (tie.spec (λ c κs. search rules) (λ c κs. search rules) (λ c. rw (← c.before.sin2-theta.ensures, ← c.sqrt.ensures)))
+sin_theta_spec = tie.close (tie.spec (λ c κs. search rules) (λ c κs. search rules) (λ c. rw (← c.before.sin2_theta.ensures, ← c.sqrt.ensures)))

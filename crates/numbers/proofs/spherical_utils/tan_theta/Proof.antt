@@ -6,4 +6,4 @@ use Rattle.numbers.proofs.spherical_utils.tan_theta.Tie as tie
 
 pub tan_theta_spec : {M : Type 1} → statement M
 unfolding tan_theta
-tan_theta_spec = tie.close (tie.spec (λ c κs. search rules) (λ c κs. search rules) (λ c. rw (← c.before.sin-theta.ensures, ← c.cos-theta.ensures)))
+tan_theta_spec = tie.close (tie.spec (λ c κs. search rules) (λ c κs. search rules) (λ c. rw (← c.before.sin_theta.ensures, ← c.cos_theta.ensures)))

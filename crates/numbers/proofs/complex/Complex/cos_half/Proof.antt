@@ -7,4 +7,4 @@ use Rattle.numbers.proofs.complex.Complex.cos_half.Tie as tie
 
 pub cos_half_spec : {M : Type 1} → statement M
 unfolding cos_half of_bits
-cos_half_spec = tie.close (tie.spec (λ c. rw c.if1.true) (λ c κs. search rules) (λ c. rw (c.before.before.if1.false, ← c.sqrt-or-zero.ensures)))
+cos_half_spec = tie.close (tie.spec (λ c. rw c.if-norm.true) (λ c κs. search rules) (λ c. rw (c.before.before.if-norm.false, ← c.sqrt_or_zero.ensures)))

@@ -8,4 +8,4 @@ use Rattle.numbers.proofs.complex.Complex.div_float.Tie as tie
 pub div_float_spec : {M : Type 1} → statement M
 unfolding div_float of_bits
 div_float_spec = tie.close (tie.spec (λ c κs. search rules) (λ c κs. search rules)
-    (λ c. rw (c.before.before.if1.true, c.before.nan.ensures, c.nan2.ensures)) (λ c. rw c.before.before.if1.false))
+    (λ c. rw (c.before.before.if-rhs.true, c.before.nan.ensures, c.nan-then-rhs.ensures)) (λ c. rw c.before.before.if-rhs.false))

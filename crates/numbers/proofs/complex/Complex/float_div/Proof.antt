@@ -7,7 +7,7 @@ use Rattle.numbers.proofs.complex.Complex.float_div.Tie as tie
 pub float_div_spec : {M : Type 1} → statement M
 unfolding float_div
 float_div_spec = tie.close (tie.spec (λ c κs. search rules) (λ c κs. search rules) (λ c κs. search rules)
-    (λ c. rw (← c.before.before.before.is_zero.ensures, c.before.before.if1.true, c.before.nan.ensures, c.nan2.ensures))
+    (λ c. rw (← c.before.before.before.is_zero.ensures, c.before.before.if-is_zero.true, c.before.nan.ensures, c.nan-then-is_zero.ensures))
     (λ c κs. search rules) (λ c κs. search rules) (λ c κs. search rules) (λ c κs. search rules)
     (λ c. let p = c.before.before in
-    rw (← p.before.before.before.is_zero.ensures, p.before.before.if1.false, c.div-float.ensures, c.before.norm-sqr.ensures, p.Float-mul.ensures, p.before.co.ensures)))
+    rw (← p.before.before.before.is_zero.ensures, p.before.before.if-is_zero.false, c.div_float.ensures, c.before.norm_sqr.ensures, p.Float-mul.ensures, p.before.co.ensures)))

@@ -6,4 +6,4 @@ use Rattle.numbers.proofs.complex.Complex.is_zero.Tie as tie
 
 pub is_zero_spec : {M : Type 1} → statement M
 unfolding is_zero of_bits
-is_zero_spec = tie.close (tie.spec (λ c. rw c.before.if1.true) (λ c. rw c.if1.false))
+is_zero_spec = tie.close (tie.spec (λ c. rw c.before.if-self.true) (λ c. rw c.if-self.false))

@@ -6,4 +6,4 @@ use Rattle.numbers.proofs.complex.Complex.norm.Tie as tie
 
 pub norm_spec : {M : Type 1} → statement M
 unfolding norm
-norm_spec = tie.close (tie.spec (λ c κs. search rules) (λ c κs. search rules) (λ c. rw (← c.before.norm-sqr.ensures, ← c.sqrt.ensures)))
+norm_spec = tie.close (tie.spec (λ c κs. search rules) (λ c κs. search rules) (λ c. rw (← c.before.norm_sqr.ensures, ← c.sqrt.ensures)))

@@ -7,4 +7,4 @@ use Rattle.numbers.proofs.complex.Complex.sqrt.Tie as tie
 pub sqrt_spec : {M : Type 1} → statement M
 unfolding sqrt
 sqrt_spec = tie.close (tie.spec (λ c κs. search rules) (λ c κs. search rules) (λ c κs. search rules) (λ c κs. search rules)
-    (λ c. rw (← c.before.before.before.norm.ensures, ← c.before.before.sqrt.ensures, ← c.before.cos-half.ensures, ← c.sin-half.ensures)))
+    (λ c. rw (← c.before.before.before.norm-norm.ensures, ← c.before.before.sqrt-root.ensures, ← c.before.cos_half.ensures, ← c.sin_half.ensures)))

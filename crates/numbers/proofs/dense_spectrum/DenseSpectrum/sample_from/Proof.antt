@@ -5,19 +5,19 @@ use Rattle.numbers.specs.GridPoint.{sample_from}
 use Rattle.numbers.proofs.dense_spectrum.DenseSpectrum.sample_from.Statement.{statement}
 use Rattle.numbers.proofs.dense_spectrum.DenseSpectrum.sample_from.Tie as tie
 
-returns : tie.Need-returns
+returns : tie.Need-returns-then-point
 unfolding sample_from of_bits
-returns c = rw c.if1.true
+returns c = rw c.if-point.true
 
-returns-2 : tie.Need-returns-2
+returns-2 : tie.Need-returns-then-point-2
 unfolding sample_from
-returns-2 c = rw (c.before.before.if1.false, c.before.if2.true, ← c.entry.ensures)
+returns-2 c = rw (c.before.before.if-point.false, c.before.if-point-2.true, ← c.entry.ensures)
 
-returns-3 : tie.Need-returns-3
+returns-3 : tie.Need-returns
 unfolding sample_from
 returns-3 c =
     let p = c.before.before.before.before in
-    rw (p.before.if1.false, p.if2.false, ← c.before.before.before.before2.ensures, ← c.before.before.entry2.ensures, ← c.before.entry3.ensures, ← c.interpolate.ensures)
+    rw (p.before.if-point.false, p.if-point-2.false, ← c.before.before.before.before-2.ensures, ← c.before.before.entry-i0.ensures, ← c.before.entry-i1.ensures, ← c.interpolate.ensures)
 
 pub sample_from_spec : {M : Type 1} → statement M
 sample_from_spec =

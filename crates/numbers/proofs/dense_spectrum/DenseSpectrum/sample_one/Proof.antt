@@ -7,7 +7,7 @@ use Rattle.numbers.proofs.dense_spectrum.DenseSpectrum.sample_one.Tie as tie
 
 returns : tie.Need-returns
 unfolding sample_one
-returns c = rw (c.sample-from.ensures, c.before.new.ensures, c.before.before.step.ensures) (sample_from_point _ _ _)
+returns c = rw (c.sample_from.ensures, c.before.new.ensures, c.before.before.step-step.ensures) (sample_from_point _ _ _)
 
 pub sample_one_spec : {M : Type 1} → statement M
 sample_one_spec = tie.close (tie.spec (λ c κs. search rules) (λ c κs. search rules) (λ c κs. search rules) returns)

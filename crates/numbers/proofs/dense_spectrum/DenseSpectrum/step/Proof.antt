@@ -7,4 +7,4 @@ use Rattle.numbers.proofs.dense_spectrum.DenseSpectrum.step.Tie as tie
 
 pub step_spec : {M : Type 1} → statement M
 unfolding step_of of_bits
-step_spec = tie.close (tie.spec (λ c. rw (eq-eqb _ _ c.if1.true)) (λ c. rw (ne_eqb _ _ c.if1.false)))
+step_spec = tie.close (tie.spec (λ c. rw (eq-eqb _ _ c.if-values-eq-FINE_SAMPLES.true)) (λ c. rw (ne_eqb _ _ c.if-values-eq-FINE_SAMPLES.false)))

@@ -8,7 +8,7 @@ use Rattle.numbers.proofs.dense_spectrum.GridPoint.new.Tie as tie
 
 returns : tie.Need-returns
 unfolding grid_point upper_point upper_lambda upper_weight of_bits
-returns c = let b1 = c.before.ceiling.ensures in rw (← b1.1, ← b1.0)
+returns c = let b1 = c.before.ceiling-b1.ensures in rw (← b1.1, ← b1.0)
 
 pub new_spec : {M : Type 1} → statement M
 new_spec = tie.close (tie.spec (λ c κs. search rules) returns)

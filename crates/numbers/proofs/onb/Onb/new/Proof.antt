@@ -7,4 +7,4 @@ use Rattle.numbers.proofs.onb.Onb.new.Tie as tie
 
 pub new_spec : {M : Type 1} → statement M
 unfolding basis slope skew of_bits neg
-new_spec = tie.close (tie.spec (λ c κs. search rules) (λ c. rw (← c.before.before.before.before.before.before.before.signum.ensures)))
+new_spec = tie.close (tie.spec (λ c κs. search rules) (λ c. rw (← c.before.before.before.before.before.before.before.signum-sgn.ensures)))

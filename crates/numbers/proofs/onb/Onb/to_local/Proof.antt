@@ -7,4 +7,4 @@ use Rattle.numbers.proofs.onb.Onb.to_local.Tie as tie
 pub to_local_spec : {M : Type 1} → statement M
 unfolding to_local
 to_local_spec = tie.close (tie.spec (λ c κs. search rules) (λ c κs. search rules) (λ c κs. search rules)
-    (λ c. rw (← c.before.before.dot.ensures, ← c.before.dot2.ensures, ← c.dot3.ensures)))
+    (λ c. rw (← c.before.before.dot.ensures, ← c.before.dot-2.ensures, ← c.dot-3.ensures)))

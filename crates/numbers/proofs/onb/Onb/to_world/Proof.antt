@@ -8,4 +8,4 @@ pub to_world_spec : {M : Type 1} → statement M
 unfolding to_world
 to_world_spec = tie.close (tie.spec (λ c κs. search rules) (λ c κs. search rules) (λ c κs. search rules) (λ c κs. search rules) (λ c κs. search rules)
     (λ c. let p = c.before.before in
-    rw (← p.before.before.Float-mul.ensures, ← p.before.float-mul2.ensures, ← p.float-mul3.ensures, ← c.before.add.ensures, ← c.add2.ensures)))
+    rw (← p.before.before.Float-mul.ensures, ← p.before.float_mul-y.ensures, ← p.float_mul-z.ensures, ← c.before.add.ensures, ← c.add-2.ensures)))

@@ -6,4 +6,4 @@ use Rattle.numbers.proofs.vec2.Vec2.abs.Tie as tie
 
 pub abs_spec : {M : Type 1} → statement M
 unfolding abs
-abs_spec = tie.close (tie.spec (λ c κs. search rules) (λ c κs. search rules) (λ c. rw (← c.before.abs.ensures, ← c.abs2.ensures)))
+abs_spec = tie.close (tie.spec (λ c κs. search rules) (λ c κs. search rules) (λ c. rw (← c.before.abs.ensures, ← c.abs-2.ensures)))

@@ -6,4 +6,4 @@ use Rattle.numbers.proofs.vec2.Vec2.max.Tie as tie
 
 pub max_spec : {M : Type 1} → statement M
 unfolding max
-max_spec = tie.close (tie.spec (λ c κs. search rules) (λ c κs. search rules) (λ c. rw (← c.before.max.ensures, ← c.max2.ensures)))
+max_spec = tie.close (tie.spec (λ c κs. search rules) (λ c κs. search rules) (λ c. rw (← c.before.max.ensures, ← c.max-2.ensures)))

@@ -6,4 +6,4 @@ use Rattle.numbers.proofs.vec2.Vec2.min.Tie as tie
 
 pub min_spec : {M : Type 1} → statement M
 unfolding min
-min_spec = tie.close (tie.spec (λ c κs. search rules) (λ c κs. search rules) (λ c. rw (← c.before.min.ensures, ← c.min2.ensures)))
+min_spec = tie.close (tie.spec (λ c κs. search rules) (λ c κs. search rules) (λ c. rw (← c.before.min.ensures, ← c.min-2.ensures)))

@@ -7,4 +7,4 @@ use Rattle.numbers.proofs.vec3.Vec3.abs.Tie as tie
 pub abs_spec : {M : Type 1} → statement M
 unfolding abs
 abs_spec = tie.close (tie.spec (λ c κs. search rules) (λ c κs. search rules) (λ c κs. search rules)
-    (λ c. rw (← c.before.before.abs.ensures, ← c.before.abs2.ensures, ← c.abs3.ensures)))
+    (λ c. rw (← c.before.before.abs.ensures, ← c.before.abs-2.ensures, ← c.abs-3.ensures)))

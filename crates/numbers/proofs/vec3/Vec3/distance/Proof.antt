@@ -8,4 +8,4 @@ use Rattle.numbers.proofs.vec3.Vec3.distance.Tie as tie
 pub distance_spec : {M : Type 1} → statement M
 unfolding distance of_bits
 distance_spec = tie.close (tie.spec (λ c κs. search rules) (λ c κs. search rules)
-    (λ c. rw (← c.before.distance-squared.ensures, ← c.sqrt-or-zero.ensures)))
+    (λ c. rw (← c.before.distance_squared.ensures, ← c.sqrt_or_zero.ensures)))

@@ -7,4 +7,4 @@ use Rattle.numbers.proofs.vec3.Vec3.distance_squared.Tie as tie
 pub distance_squared_spec : {M : Type 1} → statement M
 unfolding distance_squared
 distance_squared_spec = tie.close (tie.spec (λ c κs. search rules) (λ c κs. search rules)
-    (λ c. rw (← c.before.sub.ensures, ← c.length-squared.ensures)))
+    (λ c. rw (← c.before.sub.ensures, ← c.length_squared.ensures)))

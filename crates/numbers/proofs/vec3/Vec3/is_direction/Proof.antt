@@ -9,4 +9,4 @@ use Rattle.numbers.proofs.vec3.Vec3.is_direction.Tie as tie
 pub is_direction_spec : {M : Type 1} → statement M
 unfolding is_direction decimal of_bits
 is_direction_spec = tie.close (tie.spec (λ c κs. search rules) (λ c κs. search rules)
-    (λ c. rw (← c.before.length-squared.ensures, ← c.within.ensures)))
+    (λ c. rw (← c.before.length_squared.ensures, ← c.within.ensures)))

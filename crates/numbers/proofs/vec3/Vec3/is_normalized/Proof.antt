@@ -9,4 +9,4 @@ use Rattle.numbers.proofs.vec3.Vec3.is_normalized.Tie as tie
 pub is_normalized_spec : {M : Type 1} → statement M
 unfolding is_normalized epsilon decimal of_bits
 is_normalized_spec = tie.close (tie.spec (λ c κs. search rules) (λ c κs. search rules)
-    (λ c. rw (← c.before.length-squared.ensures, ← c.abs.ensures)))
+    (λ c. rw (← c.before.length_squared.ensures, ← c.abs.ensures)))

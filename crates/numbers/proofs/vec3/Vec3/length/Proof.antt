@@ -8,4 +8,4 @@ use Rattle.numbers.proofs.vec3.Vec3.length.Tie as tie
 pub length_spec : {M : Type 1} → statement M
 unfolding length of_bits
 length_spec = tie.close (tie.spec (λ c κs. search rules) (λ c κs. search rules)
-    (λ c. rw (← c.before.length-squared.ensures, ← c.sqrt-or-zero.ensures)))
+    (λ c. rw (← c.before.length_squared.ensures, ← c.sqrt_or_zero.ensures)))

@@ -7,4 +7,4 @@ use Rattle.numbers.proofs.vec3.Vec3.max.Tie as tie
 pub max_spec : {M : Type 1} → statement M
 unfolding max
 max_spec = tie.close (tie.spec (λ c κs. search rules) (λ c κs. search rules) (λ c κs. search rules)
-    (λ c. rw (← c.before.before.max.ensures, ← c.before.max2.ensures, ← c.max3.ensures)))
+    (λ c. rw (← c.before.before.max.ensures, ← c.before.max-2.ensures, ← c.max-3.ensures)))

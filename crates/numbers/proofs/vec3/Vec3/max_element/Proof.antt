@@ -6,4 +6,4 @@ use Rattle.numbers.proofs.vec3.Vec3.max_element.Tie as tie
 
 pub max_element_spec : {M : Type 1} → statement M
 unfolding max_element
-max_element_spec = tie.close (tie.spec (λ c κs. search rules) (λ c κs. search rules) (λ c. rw (← c.before.max.ensures, ← c.max2.ensures)))
+max_element_spec = tie.close (tie.spec (λ c κs. search rules) (λ c κs. search rules) (λ c. rw (← c.before.max.ensures, ← c.max-2.ensures)))

@@ -7,4 +7,4 @@ use Rattle.numbers.proofs.vec3.Vec3.min.Tie as tie
 pub min_spec : {M : Type 1} → statement M
 unfolding min
 min_spec = tie.close (tie.spec (λ c κs. search rules) (λ c κs. search rules) (λ c κs. search rules)
-    (λ c. rw (← c.before.before.min.ensures, ← c.before.min2.ensures, ← c.min3.ensures)))
+    (λ c. rw (← c.before.before.min.ensures, ← c.before.min-2.ensures, ← c.min-3.ensures)))

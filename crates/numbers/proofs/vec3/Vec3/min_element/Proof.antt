@@ -6,4 +6,4 @@ use Rattle.numbers.proofs.vec3.Vec3.min_element.Tie as tie
 
 pub min_element_spec : {M : Type 1} → statement M
 unfolding min_element
-min_element_spec = tie.close (tie.spec (λ c κs. search rules) (λ c κs. search rules) (λ c. rw (← c.before.min.ensures, ← c.min2.ensures)))
+min_element_spec = tie.close (tie.spec (λ c κs. search rules) (λ c κs. search rules) (λ c. rw (← c.before.min.ensures, ← c.min-2.ensures)))

@@ -6,4 +6,4 @@ use Rattle.numbers.proofs.vec3.Vec3.normalize.Tie as tie
 
 pub normalize_spec : {M : Type 1} → statement M
 unfolding normalize
-normalize_spec = tie.close (tie.spec (λ c κs. search rules) (λ c κs. search rules) (λ c. rw (← c.before.length.ensures, ← c.div-float.ensures)))
+normalize_spec = tie.close (tie.spec (λ c κs. search rules) (λ c κs. search rules) (λ c. rw (← c.before.length.ensures, ← c.div_float.ensures)))

@@ -7,4 +7,4 @@ use Rattle.numbers.proofs.vec3.Vec3.project_onto.Tie as tie
 pub project_onto_spec : {M : Type 1} → statement M
 unfolding project_onto
 project_onto_spec = tie.close (tie.spec (λ c κs. search rules) (λ c κs. search rules) (λ c κs. search rules) (λ c κs. search rules)
-    (λ c. rw (c.div-float.ensures, c.before.length-squared.ensures, c.before.before.mul-float.ensures, c.before.before.before.dot.ensures)))
+    (λ c. rw (c.div_float.ensures, c.before.length_squared.ensures, c.before.before.mul_float.ensures, c.before.before.before.dot.ensures)))
