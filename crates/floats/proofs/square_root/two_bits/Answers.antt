@@ -1,0 +1,11 @@
+-- `two_bits` meets its contract, by `two_high` and `two_low` of RootDigits.
+use native.Mathlib.Omega.{arith}
+use borrow.Author.Rules.{rules}
+use Rattle.floats.proofs.square_root.RootDigits.{two_high, two_low}
+use Rattle.floats.proofs.square_root.two_bits.Goals as goal
+
+pub returns-then-i-lt27 : goal.returns-then-i-lt27
+returns-then-i-lt27 c = two_high c.args.m c.args.i (omega arith)
+
+pub returns-else-i-lt27 : goal.returns-else-i-lt27
+returns-else-i-lt27 c = two_low c.args.m c.args.i (omega arith) (omega arith)

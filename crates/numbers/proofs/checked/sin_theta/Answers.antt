@@ -1,0 +1,13 @@
+-- `numbers::checked::sin_theta` meets its contract: refused as the check says, or the value.
+use Rattle.std.proofs.Common.{rules}
+use Rattle.numbers.specs.Refusal.{verdict, ◌▷◌}
+use Rattle.numbers.specs.Checked.{of_direction, float_answer}
+use Rattle.numbers.proofs.checked.sin_theta.Goals as goal
+
+pub returns-in-Refused : goal.returns-in-Refused
+unfolding of_direction float_answer verdict ◌▷◌
+returns-in-Refused c = rw (← c.check_direction.ensures, c.in-Refused.is)
+
+pub returns : goal.returns
+unfolding of_direction float_answer verdict ◌▷◌
+returns c = rw (← c.check_direction.ensures, c.in_default.is, ← c.sin_theta.ensures)

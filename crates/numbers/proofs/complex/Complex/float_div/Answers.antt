@@ -1,0 +1,12 @@
+-- `numbers::complex::Complex::float_div` meets its contract: the calls give what their contracts promise, and the definition is read in the same order.
+use Rattle.std.proofs.Common.{rules}
+use Rattle.numbers.specs.Complex.{float_div}
+use Rattle.numbers.proofs.complex.Complex.float_div.Goals as goal
+
+pub returns-then-is_zero : goal.returns-then-is_zero
+unfolding float_div
+returns-then-is_zero c = rw (← c.is_zero.ensures, c.if-is_zero.true, c.nan.ensures, c.nan-then-is_zero.ensures)
+
+pub returns : goal.returns
+unfolding float_div
+returns c = rw (← c.is_zero.ensures, c.if-is_zero.false, c.div_float.ensures, c.norm_sqr.ensures, c.float_mul.ensures, c.co.ensures)

@@ -1,0 +1,13 @@
+-- `numbers::dense_spectrum::DenseSpectrum::step` meets its contract: each answer is the definition's, by the test on the way.
+use lib.Ieee.{of_bits}
+use Rattle.std.proofs.Common.{eq-eqb, ne_eqb}
+use Rattle.numbers.specs.DenseSpectrum.{step_of}
+use Rattle.numbers.proofs.dense_spectrum.DenseSpectrum.step.Goals as goal
+
+pub returns-then-values-eq-FINE_SAMPLES : goal.returns-then-values-eq-FINE_SAMPLES
+unfolding step_of of_bits
+returns-then-values-eq-FINE_SAMPLES c = rw (eq-eqb _ _ c.if-values-eq-FINE_SAMPLES.true)
+
+pub returns : goal.returns
+unfolding step_of of_bits
+returns c = rw (ne_eqb _ _ c.if-values-eq-FINE_SAMPLES.false)

@@ -1,0 +1,14 @@
+-- `numbers::dense_spectrum::all_equal` meets its contract: what was found of the entries before i decides together with the rest. The measure is what is left of the list.
+use Rattle.std.proofs.Common.{◌-◌, length, sym, arith, rules}
+use lib.Ieee.{nan, eq}
+use Rattle.numbers.proofs.dense_spectrum.Every.{Rest, rest-start, rest-next, rest-ends}
+use Rattle.numbers.proofs.dense_spectrum.all_equal.Goals as goal
+
+pub loop-i-init : goal.loop-i-init
+loop-i-init c = rest-start _ _
+
+pub loop-i-preserved : goal.loop-i-preserved
+loop-i-preserved c = let l = c.loop-i in rest-next _ _ l.i l.ok nan l.invariant (omega arith)
+
+pub returns : goal.returns
+returns c = let l = c.loop-i in sym (rest-ends _ _ l.i l.ok l.invariant (omega arith))

@@ -1,0 +1,18 @@
+-- `numbers::dense_spectrum::all_within` meets its contract: what was found of the entries before i decides together with the rest. The measure is what is left of the list.
+use Rattle.std.proofs.Common.{◌-◌, length, sym, arith, rules}
+use lib.Ieee.{nan}
+use Rattle.numbers.specs.DenseSpectrum.{all_within}
+use Rattle.floats.specs.Float.{within}
+use Rattle.numbers.proofs.dense_spectrum.Every.{Rest, rest-start, rest-next, rest-ends}
+use Rattle.numbers.proofs.dense_spectrum.all_within.Goals as goal
+
+pub loop-i-init : goal.loop-i-init
+unfolding all_within
+loop-i-init c = rest-start _ _
+
+pub loop-i-preserved : goal.loop-i-preserved
+loop-i-preserved c = let l = c.loop-i in rw c.within-ok.ensures (rest-next _ _ l.i l.ok nan l.invariant (omega arith))
+
+pub returns : goal.returns
+unfolding all_within
+returns c = let l = c.loop-i in sym (rest-ends _ _ l.i l.ok l.invariant (omega arith))
