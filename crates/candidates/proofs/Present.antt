@@ -62,6 +62,7 @@ later_behind false false k n t = t
 not_ahead : (g h k : Bool) → T (g || (not h && k)) → (T g → T h → ⊥) → T h → ⊥
 not_ahead true h k t n s = n tt s
 not_ahead false true k t n s = t
+not_ahead false false k t n s = elim s [ ]
 
 -- what is known of who is present once n calls were made
 pub record Known (n : ℕ) (p : Present) : Type 0 where

@@ -33,8 +33,9 @@ module _ {A : Type 0} where
   unfolding Every Pairwise
   pairwise-perm R s Permᴰ.nil a = tt
   pairwise-perm R s (Permᴰ.cons {a = x} e d) a = rw (← e) (every-perm (R x) d a.0, pairwise-perm R s d a.1)
-  pairwise-perm R s (Permᴰ.swap {a = x} {b = y} e f) a =
-      rw (← e, ← f) ((s x y a.0.0, a.1.0), (a.0.1, a.1.1))
+  pairwise-perm R s (Permᴰ.swap {a = x} {b = y} {b' = v} {l = l} e f) a =
+      subst (λ (u : A). Pairwise R (u ∷ v ∷ l)) f
+      (subst (λ (u : A). Pairwise R (y ∷ u ∷ l)) e ((s x y a.0.0, a.1.0), (a.0.1, a.1.1)))
   pairwise-perm R s (Permᴰ.trans d e) a = pairwise-perm R s e (pairwise-perm R s d a)
 
   -- ---- a part of the list

@@ -1,0 +1,38 @@
+-- `candidates::list::place` meets its contract: the arrival goes before none of the candidates passed (`Searching`), which `row_at` reads from the columns.
+use Prim.Native.Nat.{◌-◌}
+use native.Mathlib.Omega.{arith}
+use mathlib.Core.Path.{◌≡◌, sym, ap, ◌∙◌}
+use borrow.Author.Rules.{rules}
+use lib.ListN.{length}
+use Rattle.candidates.specs.Candidate.{goes_before}
+use Rattle.candidates.specs.Memory.{rows}
+use Rattle.candidates.proofs.Lists.{Searching, searching-starts, searching-next, searching-found, searching-ends}
+use Rattle.candidates.proofs.Rows.{row_at, length-rows}
+use Rattle.candidates.proofs.list.place.Goals as goal
+
+pub loop-i-init : goal.loop-i-init
+loop-i-init c =
+    let a = c.args in
+    let l = length-rows a.ids.now a.densities.now c.requires.0 in
+    (c.requires.0, searching-starts _ a.n _ (omega arith))
+
+pub returns-then-goes_before : goal.returns-then-goes_before
+returns-then-goes_before c =
+    let l = c.loop-i in
+    let a = c.args in
+    searching-found _ _ _ a.c l.i l.invariant.1 (omega arith)
+    (ap (goes_before a.c) (row_at a.ids.now a.densities.now l.i (omega arith) l.invariant.0 a.c)
+    ∙ sym c.goes_before.ensures ∙ c.if-goes_before.true)
+
+pub loop-i-preserved : goal.loop-i-preserved
+loop-i-preserved c =
+    let l = c.loop-i in
+    let a = c.args in (
+      l.invariant.0,
+      searching-next _ _ _ a.c l.i l.invariant.1 (omega arith)
+          (ap (goes_before a.c) (row_at a.ids.now a.densities.now l.i (omega arith) l.invariant.0 a.c)
+          ∙ sym c.goes_before.ensures ∙ c.if-goes_before.false),
+    )
+
+pub returns : goal.returns
+returns c = let l = c.loop-i in searching-ends _ _ _ l.i l.invariant.1 (omega arith)
