@@ -79,6 +79,7 @@ one_within = tt
 
 holds : (b : Bool) → T b → b ≡ true
 holds true h = refl
+holds false h = elim h [ ]
 
 ones-constant : (outer : List Float) → AllF64 outer → T (all_ones outer) → is_constant outer ≡ true
 unfolding is_constant every

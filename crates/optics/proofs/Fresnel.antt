@@ -394,6 +394,7 @@ fresnel_real c e k i t = go (eq k f0) t
   where
     go : (b : Bool) → T b → cond b (cond (eq e f0) f0 (fr_real c e)) (fr_complex c e k) ≡ fr_real c e
     go true t = ap (λ (b : Bool). cond b f0 (fr_real c e)) (index_not-zero e i)
+    go false t = elim t [ ]
 
 pub fresnel-share : (c e k : Float) → Upto 64 c → Index e → T (eq k f0) → Share (fresnel c e k)
 fresnel-share c e k h i t = subst (λ (z : Float). Share z) (sym (fresnel_real c e k i t)) (fr_real-share c e h i)

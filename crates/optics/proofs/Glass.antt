@@ -227,6 +227,7 @@ total-is_one c eta t = go (is_total (sin2_i (abs c) e)) (subst (λ (s : Float). 
 
     go : (b : Bool) → T b → cond b f1 (unpolarized e (abs c) (cos_i (sin2_i (abs c) e))) ≡ f1
     go true t = refl
+    go false t = elim t [ ]
 
 -- ---- what the samplers give: a direction of finite parts of at most `reach`, or none
 abbrev pub Outcome : Scattered → Type 0

@@ -1,0 +1,11 @@
+-- `optics::bxdf::dielectric::pdf` meets its contract: it is `pdf_at` from Λ(wo) where that is read, by `glass-density`.
+use Rattle.floats.specs.Float.{f0}
+use Rattle.optics.proofs.SharedTerms.{glass-density}
+use borrow.Author.Rules.{rules}
+use Rattle.optics.proofs.bxdf.dielectric.pdf.Goals as goal
+
+pub returns : goal.returns
+returns c =
+    rw c.pdf_at.ensures
+    (glass-density _ f0 _ _ _ _ _ _ (rw (← c.is_smooth.ensures) c.lambda_unless-lambda_wo.ensures) _ c.eta_ratio-ratio.ensures _
+    c.half-wh.ensures)

@@ -1,0 +1,28 @@
+-- `optics::microfacet::Ggx::g_over_g1_at` meets its contract: the calls give what their contracts promise, and the definition is read in the same order.
+use Rattle.optics.specs.SharedTerms.{g_over_g1_at}
+use lib.Ieee.{of_bits}
+use borrow.Author.Rules.{rules}
+use Rattle.optics.proofs.microfacet.Ggx.g_over_g1_at.Goals as goal
+
+pub returns-then-g1 : goal.returns-then-g1
+unfolding g_over_g1_at of_bits
+returns-then-g1 c =
+    rw (
+      ← c.chi_pass_at.ensures,
+      c.if-chi_pass_at.true,
+      c.if-g1.true,
+    )
+
+pub returns-then-chi_pass_at : goal.returns-then-chi_pass_at
+unfolding g_over_g1_at of_bits
+returns-then-chi_pass_at c =
+    rw (
+      ← c.chi_pass_at.ensures,
+      c.if-chi_pass_at.true,
+      c.if-g1.false,
+      ← c.lambda.ensures,
+    )
+
+pub returns : goal.returns
+unfolding g_over_g1_at of_bits
+returns c = rw (← c.chi_pass_at.ensures, c.if-chi_pass_at.false)
