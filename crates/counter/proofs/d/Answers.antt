@@ -1,0 +1,14 @@
+-- `counter::d` meets its contract: refused as the checks say, or the value.
+use borrow.Author.Rules.{rules}
+use Rattle.numbers.specs.Refusal.{verdict, ◌▷◌}
+use Rattle.numbers.specs.Checked.{float_answer}
+use Rattle.counter.specs.Counter.{d}
+use Rattle.counter.proofs.d.Goals as goal
+
+pub returns-in-Refused : goal.returns-in-Refused
+unfolding d float_answer verdict ◌▷◌
+returns-in-Refused c = rw (← c.check_surface.ensures, ← c.check_direction.ensures, ← c.then-check.ensures, c.in-Refused.is)
+
+pub returns : goal.returns
+unfolding d float_answer verdict ◌▷◌
+returns c = rw (← c.check_surface.ensures, ← c.check_direction.ensures, ← c.then-check.ensures, c.in_default.is, ← c.d.ensures)

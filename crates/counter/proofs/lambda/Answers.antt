@@ -1,0 +1,14 @@
+-- `counter::lambda` meets its contract: refused as the checks say, or the value.
+use borrow.Author.Rules.{rules}
+use Rattle.numbers.specs.Refusal.{verdict, ◌▷◌}
+use Rattle.numbers.specs.Checked.{float_answer}
+use Rattle.counter.specs.Counter.{lambda}
+use Rattle.counter.proofs.lambda.Goals as goal
+
+pub returns-in-Refused : goal.returns-in-Refused
+unfolding lambda float_answer verdict ◌▷◌
+returns-in-Refused c = rw (← c.check_surface.ensures, ← c.check_direction.ensures, ← c.then-check.ensures, c.in-Refused.is)
+
+pub returns : goal.returns
+unfolding lambda float_answer verdict ◌▷◌
+returns c = rw (← c.check_surface.ensures, ← c.check_direction.ensures, ← c.then-check.ensures, c.in_default.is, ← c.lambda.ensures)
