@@ -65,6 +65,9 @@ filters a f t =
   where
     each : (x y z w : Bool) → T (x && y && z && w) → T x × T y × T z × T w
     each true true true w t = (tt, tt, tt, t)
+    each false y z w t = elim t [ ]
+    each true false z w t = elim t [ ]
+    each true true false w t = elim t [ ]
 
 left_fits : (kind : Kind) (eta : List Float) (outside : Outside) (lambda : Color) → ColorF64 lambda → ColorF64 (left_on kind eta outside lambda)
 unfolding left_on left_on_glass terminate leading fits

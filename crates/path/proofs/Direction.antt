@@ -1,8 +1,7 @@
 -- What a bounce learns from a sampler's answer.
 -- Where it is no direction, the bounce is lost (`no_direction`) and each weight is 0 (`no_weights`).
 -- A direction that metal sends on is a reflection (`metal-reflects`).
-use Rattle.std.proofs.Common.{◌≡◌, ℕ, suc, Bool, true, false, cond, ◌⊎◌, sym, refl, ap, ◌∙◌, inl, inr, arith}
-use denote.Enum.Declared.{tag_of}
+use Rattle.std.proofs.Common.{◌≡◌, Bool, true, false, cond, sym, refl, ap, ◌∙◌}
 use Rattle.floats.specs.Float.{f0}
 use Rattle.numbers.specs.declared.vec2.Vec2.{Vec2}
 use Rattle.numbers.specs.declared.vec3.Vec3.{Vec3}
@@ -14,32 +13,26 @@ use Rattle.optics.specs.Facets.{is_delta}
 use Rattle.optics.specs.declared.color.Color.{Color}
 use Rattle.optics.specs.declared.bxdf.Sampled.{Sampled}
 use Rattle.optics.specs.declared.bxdf.Sampled.TheVariants as S
-use Rattle.optics.specs.contracts.bxdf.Sampled.{the_type}
 use Rattle.path.specs.declared.records.Path.{Path}
 use Rattle.path.specs.declared.records.Bounce.{Bounce}
 use Rattle.path.specs.Bounce.{weight_from, weights_from}
 use Rattle.path.specs.Answer.{lost, shares, worked}
 
--- ---- no direction: a variant after `Direction`, the first or the second
+-- ---- no direction
 abbrev pub Directionless : Sampled → Type 0
-Directionless s = (tag_of the_type s ≡ 1) ⊎ (tag_of the_type s ≡ 2)
-
-not_first : (n : ℕ) → 0 ≡ suc n → ⊥
-not_first n e = omega arith
+Directionless s = (wi : Vec3) (reflection : Bool) → s ≡ S.Direction wi reflection → ⊥
 
 pub no_direction : (s : Sampled) → Directionless s → (m : Microsurface) (lambda : Color) (b : Bounce) (next : Path)
     → worked (sampled s) m lambda b next ≡ lost (shares m lambda b) next
 unfolding sampled worked
-no_direction (S.Direction wi r) (inl e) m lambda b next = absurd (not_first 0 e)
-no_direction (S.Direction wi r) (inr e) m lambda b next = absurd (not_first 1 e)
+no_direction (S.Direction wi r) h m lambda b next = absurd (h wi r refl)
 no_direction S.None h m lambda b next = refl
 no_direction S.Total h m lambda b next = refl
 
 pub no_weights : (s : Sampled) → Directionless s → (m : Microsurface) (lambda : Color) (b : Bounce)
     → weights_from (sampled s) m lambda b ≡ color f0 f0 f0 f0
 unfolding sampled weights_from weight_from
-no_weights (S.Direction wi r) (inl e) m lambda b = absurd (not_first 0 e)
-no_weights (S.Direction wi r) (inr e) m lambda b = absurd (not_first 1 e)
+no_weights (S.Direction wi r) h m lambda b = absurd (h wi r refl)
 no_weights S.None h m lambda b = refl
 no_weights S.Total h m lambda b = refl
 

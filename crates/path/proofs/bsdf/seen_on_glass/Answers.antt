@@ -1,0 +1,12 @@
+-- `path::bsdf::seen_on_glass` meets its contract: the calls give what their contracts promise, and Λ(wo) handed on changes nothing, by `glass-density`.
+use Rattle.std.proofs.Common.{rules}
+use Rattle.floats.specs.Float.{f0}
+use Rattle.optics.proofs.SharedTerms.{glass-density}
+use Rattle.path.proofs.bsdf.seen_on_glass.Goals as goal
+
+pub returns : goal.returns
+returns c =
+    let pre = c.requires in (
+      rw c.pdf_at-pdf.ensures (glass-density _ f0 _ _ _ _ _ _ (rw (← pre.0) pre.1) _ c.eta_ratio-ratio.ensures _ c.half-half.ensures),
+      rw (c.shadowing-q.ensures, pre.0),
+    )

@@ -1,0 +1,8 @@
+-- `path::many::bounce_in` meets its contract: the nineteen numbers in their places.
+use Rattle.std.proofs.Common.{rules}
+use Rattle.path.specs.Many.{bounce_in}
+use Rattle.path.proofs.many.bounce_in.Goals as goal
+
+pub returns : goal.returns
+unfolding bounce_in
+returns c = rw (← c.is_set.ensures)

@@ -1,0 +1,13 @@
+-- `path::plain::of_shares` meets its contract: each case is laid out as the definition has it.
+use lib.Ieee.{of_bits}
+use Rattle.std.proofs.Common.{rules}
+use Rattle.path.specs.Plain.{shares_record}
+use Rattle.path.proofs.plain.of_shares.Goals as goal
+
+pub returns-in-None : goal.returns-in-None
+unfolding shares_record of_bits
+returns-in-None c = rw c.in-None.is
+
+pub returns-in-Of : goal.returns-in-Of
+unfolding shares_record of_bits
+returns-in-Of c = rw c.in-Of.is

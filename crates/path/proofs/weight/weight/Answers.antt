@@ -1,0 +1,12 @@
+-- `path::weight::weight` meets its contract: by the test of the wavelength.
+use lib.Ieee.{of_bits}
+use Rattle.path.specs.Bounce.{weight}
+use Rattle.path.proofs.weight.weight.Goals as goal
+
+pub returns-then-wl : goal.returns-then-wl
+unfolding weight of_bits
+returns-then-wl c = rw c.if-wl.true
+
+pub returns : goal.returns
+unfolding weight of_bits
+returns c = rw c.if-wl.false
