@@ -10,8 +10,7 @@ use path::many;
 
 // Runs as many bounces as both arrays have room for, and returns how many; what lies past their places
 // in the output stays as it was.
-#[unsafe(no_mangle)]
-pub extern "C" fn rulvimba_bounces(
+pub fn rulvimba_bounces(
     surface: SurfaceRecord,
     eta: &[f64],
     k: &[f64],

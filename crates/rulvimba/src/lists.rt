@@ -8,8 +8,7 @@ use candidates::list;
 use candidates::list::ROOM;
 
 // A candidate arrives; a refusal leaves the memory as it was.
-#[unsafe(no_mangle)]
-pub extern "C" fn rulvimba_arrive_in(
+pub fn rulvimba_arrive_in(
     count: &mut usize,
     ids: &mut [u16; ROOM],
     densities: &mut [f64; ROOM],
@@ -21,8 +20,7 @@ pub extern "C" fn rulvimba_arrive_in(
 }
 
 // A candidate departs; a refusal leaves the memory as it was.
-#[unsafe(no_mangle)]
-pub extern "C" fn rulvimba_depart_in(
+pub fn rulvimba_depart_in(
     count: &mut usize,
     ids: &mut [u16; ROOM],
     densities: &mut [f64; ROOM],

@@ -68,8 +68,7 @@ fn keep(numbers: &mut [f64; 8], answer: Bounced)
 }
 
 // Starts a path at four wavelengths; a refusal leaves the memory as it was.
-#[unsafe(no_mangle)]
-pub extern "C" fn rulvimba_start(path: &mut [f64; 8], lambda: Color) -> u64
+pub fn rulvimba_start(path: &mut [f64; 8], lambda: Color) -> u64
     ensures { StartCall path.old lambda result path.new }
 {
     match Path::start(lambda) {
@@ -82,8 +81,7 @@ pub extern "C" fn rulvimba_start(path: &mut [f64; 8], lambda: Color) -> u64
 }
 
 // A bounce of the path; a refusal leaves the memory as it was.
-#[unsafe(no_mangle)]
-pub extern "C" fn rulvimba_bounce(
+pub fn rulvimba_bounce(
     path: &mut [f64; 8],
     surface: SurfaceRecord,
     eta: &[f64],

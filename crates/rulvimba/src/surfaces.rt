@@ -81,8 +81,7 @@ fn of_made(answer: SurfaceAnswer) -> SurfaceResult
 }
 
 // A surface from its kind, one roughness and its spectra.
-#[unsafe(no_mangle)]
-pub extern "C" fn rulvimba_make_surface(
+pub fn rulvimba_make_surface(
     kind: u64,
     roughness: f64,
     eta: &[f64],
@@ -101,13 +100,7 @@ pub extern "C" fn rulvimba_make_surface(
 }
 
 // The number that the fields of a surface are refused with, or 0.
-#[unsafe(no_mangle)]
-pub extern "C" fn rulvimba_check_surface(
-    surface: SurfaceRecord,
-    eta: &[f64],
-    k: &[f64],
-    outer: &[f64],
-) -> u64
+pub fn rulvimba_check_surface(surface: SurfaceRecord, eta: &[f64], k: &[f64], outer: &[f64]) -> u64
     ensures { result ≡ check_number (check_surface (surface_with surface eta.now k.now outer.now)) }
 {
     records::of_check(check::check_surface(of_record(surface), eta, k, outer))

@@ -11,16 +11,14 @@ use crate::{records, surfaces};
 use numbers::vec3::Vec3;
 use optics::color::Color;
 
-#[unsafe(no_mangle)]
-pub extern "C" fn rulvimba_lookup(values: &[f64], lambda: f64) -> FloatResult
+pub fn rulvimba_lookup(values: &[f64], lambda: f64) -> FloatResult
     ensures { result ≡ float_result (lookup values.now lambda) }
 {
     records::of_float(numbers::checked::lookup(values, lambda))
 }
 
 // ---- facet terms
-#[unsafe(no_mangle)]
-pub extern "C" fn rulvimba_lambda(
+pub fn rulvimba_lambda(
     surface: SurfaceRecord,
     eta: &[f64],
     k: &[f64],
@@ -32,8 +30,7 @@ pub extern "C" fn rulvimba_lambda(
     records::of_float(counter::lambda(surfaces::of_record(surface), eta, k, outer, w))
 }
 
-#[unsafe(no_mangle)]
-pub extern "C" fn rulvimba_g1(
+pub fn rulvimba_g1(
     surface: SurfaceRecord,
     eta: &[f64],
     k: &[f64],
@@ -46,8 +43,7 @@ pub extern "C" fn rulvimba_g1(
     records::of_float(counter::g1(surfaces::of_record(surface), eta, k, outer, wo, wh))
 }
 
-#[unsafe(no_mangle)]
-pub extern "C" fn rulvimba_g(
+pub fn rulvimba_g(
     surface: SurfaceRecord,
     eta: &[f64],
     k: &[f64],
@@ -61,8 +57,7 @@ pub extern "C" fn rulvimba_g(
     records::of_float(counter::g(surfaces::of_record(surface), eta, k, outer, wo, wi, wh))
 }
 
-#[unsafe(no_mangle)]
-pub extern "C" fn rulvimba_d(
+pub fn rulvimba_d(
     surface: SurfaceRecord,
     eta: &[f64],
     k: &[f64],
@@ -75,8 +70,7 @@ pub extern "C" fn rulvimba_d(
 }
 
 // ---- Fresnel, at one wavelength and at four
-#[unsafe(no_mangle)]
-pub extern "C" fn rulvimba_fresnel_at(
+pub fn rulvimba_fresnel_at(
     surface: SurfaceRecord,
     eta: &[f64],
     k: &[f64],
@@ -90,8 +84,7 @@ pub extern "C" fn rulvimba_fresnel_at(
     records::of_float(counter::f_at(surfaces::of_record(surface), eta, k, outer, wo, wh, lambda))
 }
 
-#[unsafe(no_mangle)]
-pub extern "C" fn rulvimba_fresnel(
+pub fn rulvimba_fresnel(
     surface: SurfaceRecord,
     eta: &[f64],
     k: &[f64],
@@ -106,8 +99,7 @@ pub extern "C" fn rulvimba_fresnel(
 }
 
 // ---- sampler, mirror, bend
-#[unsafe(no_mangle)]
-pub extern "C" fn rulvimba_sample_normal(
+pub fn rulvimba_sample_normal(
     surface: SurfaceRecord,
     eta: &[f64],
     k: &[f64],
@@ -131,23 +123,20 @@ pub extern "C" fn rulvimba_sample_normal(
     ))
 }
 
-#[unsafe(no_mangle)]
-pub extern "C" fn rulvimba_reflect(wo: Vec3, n: Vec3) -> DirectionResult
+pub fn rulvimba_reflect(wo: Vec3, n: Vec3) -> DirectionResult
     ensures { result ≡ direction_result (Counter.reflect wo n) }
 {
     records::of_reflect(counter::reflect(wo, n))
 }
 
-#[unsafe(no_mangle)]
-pub extern "C" fn rulvimba_refract(eta: f64, wo: Vec3, n: Vec3) -> DirectionResult
+pub fn rulvimba_refract(eta: f64, wo: Vec3, n: Vec3) -> DirectionResult
     ensures { result ≡ direction_result (Counter.refract eta wo n) }
 {
     records::of_refract(counter::refract(eta, wo, n))
 }
 
 // ---- density
-#[unsafe(no_mangle)]
-pub extern "C" fn rulvimba_density(
+pub fn rulvimba_density(
     surface: SurfaceRecord,
     eta: &[f64],
     k: &[f64],
