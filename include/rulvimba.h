@@ -1,12 +1,12 @@
 /*
  * rulvimba: light at metal and glass with facets (GGX), as a static library.
  *
- *   rt staticlib rulvimba          makes target/staticlib/librulvimba.a
+ *   tools/build rulvimba_c         makes target/staticlib/librulvimba.a
  *   cc program.c -Iinclude target/staticlib/librulvimba.a
  *
  * Each function of the library is proved, for every input, to return what is said here and to leave in
- * memory what is said here (crates/rulvimba/src has the contracts, crates/rulvimba/specs their layout for
- * C). It reads and writes nothing else, keeps no state, allocates nothing, and always returns. What is
+ * memory what is said here (crates/rulvimba_c/src has the contracts, crates/rulvimba/specs their layout
+ * for C). It reads and writes nothing else, keeps no state, allocates nothing, and always returns. What is
  * asked of the caller: a pointer to an array is good for the length that goes with it, a pointer to a path
  * for eight doubles, those to a list for one count, 64 ids and 64 densities; none is NULL (an array of
  * length 0 included); a bool is 0 or 1; and what is written to (a path, an output, each of a list's three
