@@ -11,7 +11,7 @@ const ID_DIGITS: usize = 5;
 const IDS: u64 = 65536;
 
 // What is wrong with a line.
-#[derive(Drop)]
+#[derive(Clone, Copy)]
 pub enum Fault {
     Command,
     SurfaceIndex,
@@ -30,7 +30,7 @@ pub enum Fault {
 
 // Where the next word is looked for, and how many words were read. `fault` is of the last of them,
 // where it is not `ok`.
-#[derive(Drop)]
+#[derive(Clone, Copy)]
 pub struct Cursor {
     pub at: usize,
     pub words: u64,

@@ -4,10 +4,10 @@ use native.Mathlib.Omega.{arith}
 use Rattle.text.proofs.buffer.line_feed.Statement.{statement}
 use Rattle.text.proofs.buffer.line_feed.Tie as tie
 
-abbrev invariant-loop : tie.invariant-loop
+abbrev invariant-loop : tie.invariant-loop-at
 invariant-loop buf from end at₀ at = Unit {0}
 
-abbrev decreases-loop : tie.decreases-loop
+abbrev decreases-loop : tie.decreases-loop-at
 decreases-loop buf from end at₀ at = end - at
 
 pub line_feed_spec : {M : Type 1} → statement M

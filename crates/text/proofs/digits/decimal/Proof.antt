@@ -5,10 +5,10 @@ use native.Mathlib.Omega.{arith}
 use Rattle.text.proofs.digits.decimal.Statement.{statement}
 use Rattle.text.proofs.digits.decimal.Tie as tie
 
-abbrev invariant-loop : tie.invariant-loop
+abbrev invariant-loop : tie.invariant-loop-i
 invariant-loop digits value₀ i₀ value i = Unit {0}
 
-abbrev decreases-loop : tie.decreases-loop
+abbrev decreases-loop : tie.decreases-loop-i
 decreases-loop digits value₀ i₀ value i = length digits - i
 
 pub decimal_spec : {M : Type 1} → statement M

@@ -6,20 +6,20 @@ use borrow.Author.Rules.{rules}
 use Rattle.text.proofs.line.entries.Statement.{statement}
 use Rattle.text.proofs.line.entries.Tie as tie
 
-abbrev invariant-loop : tie.invariant-loop
+abbrev invariant-loop : tie.invariant-loop-turns
 invariant-loop text values₀ now₀ count₀ turns₀ values now count turns = length values ≡ length values₀
 
-abbrev decreases-loop : tie.decreases-loop
+abbrev decreases-loop : tie.decreases-loop-turns
 decreases-loop text values₀ now₀ count₀ turns₀ values now count turns = turns
 
-loop-again : tie.Need-loop-preserved invariant-loop decreases-loop
-loop-again c = search (rules, c.before.before.before.before.before.before.before.before.before.loop.invariant)
+loop-again : tie.Need-loop-turns-preserved invariant-loop decreases-loop
+loop-again c = search (rules, c.before.before.before.before.before.before.before.before.before.loop-turns.invariant)
 
-same_length : tie.Need-same-length invariant-loop decreases-loop
-same_length c = c.before.before.before.loop.invariant
+same_length : tie.Need-shape_of-values-else-not-entries_end invariant-loop decreases-loop
+same_length c = c.before.before.before.loop-turns.invariant
 
-same_length_2 : tie.Need-same-length-2 invariant-loop decreases-loop
-same_length_2 c = c.before.loop.invariant
+same_length_2 : tie.Need-shape_of-values-after-loop-turns invariant-loop decreases-loop
+same_length_2 c = c.before.loop-turns.invariant
 
 pub entries_spec : {M : Type 1} → statement M
 entries_spec =

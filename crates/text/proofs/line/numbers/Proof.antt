@@ -7,20 +7,20 @@ use borrow.Author.Rules.{rules}
 use Rattle.text.proofs.line.numbers.Statement.{statement}
 use Rattle.text.proofs.line.numbers.Tie as tie
 
-abbrev invariant-loop : tie.invariant-loop
+abbrev invariant-loop : tie.invariant-loop-i
 invariant-loop text values₀ now₀ i₀ values now i = length values ≡ length values₀
 
-abbrev decreases-loop : tie.decreases-loop
+abbrev decreases-loop : tie.decreases-loop-i
 decreases-loop text values₀ now₀ i₀ values now i = length values₀ - i
 
-loop-less : tie.Need-loop-smaller invariant-loop decreases-loop
-loop-less c = omega (arith, c.before.before.before.loop.invariant)
+loop-less : tie.Need-loop-i-smaller invariant-loop decreases-loop
+loop-less c = omega (arith, c.before.before.before.loop-i.invariant)
 
-loop-again : tie.Need-loop-preserved invariant-loop decreases-loop
-loop-again c = length-set c.before.before.before.loop.values c.before.before.before.loop.i c.before.number.result.value ∙ c.before.before.before.loop.invariant
+loop-again : tie.Need-loop-i-preserved invariant-loop decreases-loop
+loop-again c = length-set c.before.before.before.loop-i.values c.before.before.before.loop-i.i c.before.number-read.result.value ∙ c.before.before.before.loop-i.invariant
 
-same_length : tie.Need-same-length invariant-loop decreases-loop
-same_length c = c.before.loop.invariant
+same_length : tie.Need-shape_of-values invariant-loop decreases-loop
+same_length c = c.before.loop-i.invariant
 
 pub numbers_spec : {M : Type 1} → statement M
 numbers_spec =

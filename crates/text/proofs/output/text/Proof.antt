@@ -7,17 +7,17 @@ use borrow.Author.Rules.{rules}
 use Rattle.text.proofs.output.text.Statement.{statement}
 use Rattle.text.proofs.output.text.Tie as tie
 
-abbrev invariant-loop : tie.invariant-loop
+abbrev invariant-loop : tie.invariant-loop-i
 invariant-loop out₀ n t used₀ i₀ out used i = length out ≡ length out₀
 
-abbrev decreases-loop : tie.decreases-loop
+abbrev decreases-loop : tie.decreases-loop-i
 decreases-loop out₀ n t used₀ i₀ out used i = length t - i
 
-loop-again : tie.Need-loop-preserved invariant-loop decreases-loop
-loop-again c = search (rules, c.before.before.before.before.before.before.loop.invariant)
+loop-again : tie.Need-loop-i-preserved invariant-loop decreases-loop
+loop-again c = search (rules, c.before.before.before.before.before.before.loop-i.invariant)
 
-same_length : tie.Need-same-length invariant-loop decreases-loop
-same_length c = c.before.loop.invariant
+same_length : tie.Need-shape_of-out invariant-loop decreases-loop
+same_length c = c.before.loop-i.invariant
 
 pub text_spec : {M : Type 1} → statement M
 text_spec =

@@ -13,14 +13,16 @@ use Rattle.text.proofs.patterns.of_bits.Tie as tie
 one_nan : (x : Float) → T (is_nan x) → x ≡ nan
 unfolding is_nan
 one_nan nan t = refl
+one_nan (lib.Ieee.inf _) t = elim t [ ]
+one_nan (lib.Ieee.fin _ _ _) t = elim t [ ]
 
-returns : tie.Need-returns
+returns : tie.Need-returns-then-bits-gt9218868437227405312
 returns c =
     let b = c.before.before.args.bits in
     let above : T (is_nan (of_bits binary64 b)) = rw (← nan_bits_is binary64 b, nan_bits_above binary64 b) (lt→ltb 9218868437227405312 (b % 9223372036854775808) (omega arith)) in
     c.nan.ensures ∙ sym (one_nan (of_bits binary64 b) above)
 
-float_from_bits_result : tie.Need-float-from-bits-result
+float_from_bits_result : tie.Need-float_from_bits-result
 float_from_bits_result c = rw (nan_bits_above binary64 c.before.args.bits) (le→nltb 9218868437227405312 (c.before.args.bits % 9223372036854775808) (omega arith))
 
 pub of_bits_spec : {M : Type 1} → statement M
