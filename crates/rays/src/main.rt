@@ -2,7 +2,10 @@
 // for each command (docs/RAYS.md). It holds a part of the job at a time, however long the job is.
 #![tactic(auto)]
 
-use libc::{STDERR_FILENO, STDIN_FILENO, STDOUT_FILENO};
+use std::env::{Env, FillError};
+use std::io::Read;
+use std::rt::Files;
+use std::{fs, io, str};
 use text::answers::{Answered, Outcome, Tally};
 use text::words::part;
 use text::{answers, buffer, line};
@@ -17,7 +20,7 @@ mod store;
 // `end` are a line if it is `ready`: the next, whose number is `number`, or the rest of the job if it
 // has `ended`. `skipping` is whether the rest of the line is skipped, `used` how many bytes are to be
 // written, and `tally` what was answered.
-#[derive(Drop)]
+#[derive(Clone, Copy)]
 struct Stream {
     go: bool,
     ended: bool,
@@ -39,13 +42,20 @@ enum Fetched {
     Failed,
 }
 
+// Says on standard error what failed, and why. Where that can't be written either, nothing is left to be said.
+fn fail(rt: &impl Eprint, what: &str, why: io::Error) {
+    let _ = eprintln!(rt; "{what}: {why}");
+}
+
 // Writes the first `used` bytes, and answers whether it could.
-fn flush(out: &[u8], used: usize) -> bool {
-    let is_written = io::write_all(STDOUT_FILENO, part(out, 0, used));
-    if !is_written {
-        os::fail(b"rays: write");
+fn flush(rt: &(impl Print + Eprint), out: &[u8], used: usize) -> bool {
+    match rt.write_all(part(out, 0, used)) {
+        Ok(()) => true,
+        Err(why) => {
+            fail(rt, "rays: write", why);
+            false
+        }
     }
-    is_written
 }
 
 // The answer to the line that is ready.
@@ -88,13 +98,13 @@ fn with_answer(s: Stream, a: Answered) -> Stream {
 }
 
 // The stream with room for an answer.
-fn with_room(out: &[u8], s: Stream) -> Stream {
+fn with_room(rt: &(impl Print + Eprint), out: &[u8], s: Stream) -> Stream {
     let used = s.used;
     if used <= out.len() && sizes::ANSWER <= out.len() - used {
         return s;
     }
     Stream {
-        go: flush(out, used),
+        go: flush(rt, out, used),
         used: 0,
         ..s
     }
@@ -141,12 +151,12 @@ fn at_start(buf: &mut [u8], out: &mut [u8], s: Stream) -> Stream {
     }
 }
 
-// Reads once, to what is behind the first `have` bytes. Negative where it fails.
-fn read_behind(fd: i32, buf: &mut [u8], have: usize) -> isize {
+// Reads once, to what is behind the first `have` bytes, and answers how many it gave.
+fn read_behind(input: &mut impl Read, buf: &mut [u8], have: usize) -> io::Result<usize> {
     if have <= buf.len() {
-        return libc::read(fd, &mut buf[have..]);
+        return input.read(&mut buf[have..]);
     }
-    0
+    Ok(0)
 }
 
 // The stream with `n` bytes more.
@@ -162,20 +172,25 @@ fn longer(buf: &[u8], s: Stream, n: usize) -> Stream {
 }
 
 // What is read next, behind the first `have` bytes, once all answers are written.
-fn fetch(fd: i32, buf: &mut [u8], have: usize, out: &[u8], used: usize) -> Fetched {
-    if !flush(out, used) {
+fn fetch(
+    rt: &(impl Print + Eprint),
+    input: &mut impl Read,
+    buf: &mut [u8],
+    have: usize,
+    out: &[u8],
+    used: usize,
+) -> Fetched {
+    if !flush(rt, out, used) {
         return Fetched::Failed;
     }
-    let got = read_behind(fd, buf, have);
-    if got < 0 {
-        os::fail(b"rays: read");
-        return Fetched::Failed;
+    match read_behind(input, buf, have) {
+        Ok(0) => Fetched::End,
+        Ok(n) => Fetched::Bytes(n),
+        Err(why) => {
+            fail(rt, "rays: read", why);
+            Fetched::Failed
+        }
     }
-    let n = io::count(got, buf);
-    if n == 0 {
-        return Fetched::End;
-    }
-    Fetched::Bytes(n)
 }
 
 // The stream with what was read; at the job's end the rest of it is the last line.
@@ -193,9 +208,15 @@ fn with_fetched(buf: &[u8], s: Stream, fetched: Fetched) -> Stream {
 }
 
 // The stream once more is read and nothing is left to be written.
-fn more(fd: i32, buf: &mut [u8], s: Stream, out: &mut [u8]) -> Stream {
+fn more(
+    rt: &(impl Print + Eprint),
+    input: &mut impl Read,
+    buf: &mut [u8],
+    s: Stream,
+    out: &mut [u8],
+) -> Stream {
     let r = at_start(buf, out, s);
-    let fetched = fetch(fd, buf, r.have, out, r.used);
+    let fetched = fetch(rt, input, buf, r.have, out, r.used);
     let written = Stream {
         ready: false,
         used: 0,
@@ -205,17 +226,23 @@ fn more(fd: i32, buf: &mut [u8], s: Stream, out: &mut [u8]) -> Stream {
 }
 
 // The stream with the next line ready and room for its answer, or with more of the job.
-fn next_line(fd: i32, buf: &mut [u8], s: Stream, out: &mut [u8]) -> Stream {
+fn next_line(
+    rt: &(impl Print + Eprint),
+    input: &mut impl Read,
+    buf: &mut [u8],
+    s: Stream,
+    out: &mut [u8],
+) -> Stream {
     let end = buffer::line_feed(buf, s.at, s.have);
     if end < s.have {
-        let r = with_room(out, s);
+        let r = with_room(rt, out, s);
         return Stream {
             ready: true,
             end,
             ..r
         };
     }
-    more(fd, buf, s, out)
+    more(rt, input, buf, s, out)
 }
 
 // The place behind the line feed at `end`.
@@ -256,11 +283,11 @@ fn answer_line(
 }
 
 // What was answered is counted in the last line, if the job was read to its end.
-fn finish(s: Stream, out: &mut [u8]) {
+fn finish(rt: &(impl Print + Eprint), s: Stream, out: &mut [u8]) {
     if s.ended {
         let tally = s.tally;
         let used = tally.text(out, s.used);
-        flush(out, used);
+        flush(rt, out, used);
     }
 }
 
@@ -282,7 +309,8 @@ fn beginning() -> Stream {
 // Answers each line. A proved loop has to end, so it counts its turns, down from a number that no job
 // uses up.
 fn answer_all(
-    fd: i32,
+    rt: &(impl Print + Eprint),
+    input: &mut impl Read,
     buf: &mut [u8],
     surfaces: &mut [f64],
     paths: &mut [f64],
@@ -294,15 +322,15 @@ fn answer_all(
     let mut s = beginning();
     let mut turns = u64::MAX;
     while turns > 0 && s.go {
-        let r = next_line(fd, buf, s, out);
+        let r = next_line(rt, input, buf, s, out);
         s = answer_line(buf, r, surfaces, paths, count, ids, densities, out);
         turns -= 1;
     }
     s
 }
 
-fn answer_job(fd: i32) {
-    let mut buf = io::large_buffer();
+fn answer_job(rt: &(impl Print + Eprint), input: &mut impl Read) {
+    let mut buf = [0u8; sizes::INPUT];
     let mut surfaces = [0.0; sizes::SURFACES * sizes::SURFACE];
     let mut paths = [0.0; sizes::PATHS * sizes::PATH];
     let mut count: usize = 0;
@@ -310,7 +338,8 @@ fn answer_job(fd: i32) {
     let mut densities = [0.0; sizes::CANDIDATES];
     let mut out = [0u8; sizes::OUTPUT];
     let s = answer_all(
-        fd,
+        rt,
+        input,
         &mut buf,
         &mut surfaces,
         &mut paths,
@@ -319,30 +348,43 @@ fn answer_job(fd: i32) {
         &mut densities,
         &mut out,
     );
-    finish(s, &mut out);
+    finish(rt, s, &mut out);
 }
 
-fn main() {
-    let count = os::arg_count();
-    if count < 2 {
-        answer_job(STDIN_FILENO);
+// Answers the job in a file, whose path is the argument. std's paths are text.
+fn answer_file(rt: &(impl Files + Print + Eprint), path: &[u8]) {
+    match str::from_utf8(path) {
+        Ok(name) => match fs::open(rt, name) {
+            Ok(mut file) => answer_job(rt, &mut file),
+            Err(why) => fail(rt, name, why),
+        },
+        Err(why) => {
+            let _ = eprintln!(rt; "rays: argument: {why}");
+        }
+    }
+}
+
+// Whether the program has a second argument, which it has no use for.
+fn has_more(rt: &impl Env) -> bool {
+    let mut no_room = [0u8; 1];
+    match rt.arg(2, &mut no_room) {
+        Ok(_) => true,
+        Err(FillError::TooLong) => true,
+        Err(FillError::NotPresent) => false,
+    }
+}
+
+fn main(rt: HostRuntime) {
+    if has_more(&rt) {
+        let _ = eprintln!(rt; "usage: rays [JOB]");
         return;
     }
-    if 2 < count {
-        io::write_all(STDERR_FILENO, b"usage: rays [JOB]\n");
-        return;
+    let mut path = [0u8; sizes::ARGUMENT];
+    match rt.arg(1, &mut path) {
+        Ok(n) => answer_file(&rt, &path[..n]),
+        Err(FillError::NotPresent) => answer_job(&rt, &mut rt.stdin()),
+        Err(FillError::TooLong) => {
+            let _ = eprintln!(rt; "rays: argument: File name too long");
+        }
     }
-    let mut path = io::buffer();
-    let n = os::arg(1, &mut path);
-    if os::errno() != 0 {
-        os::fail(b"rays: argument");
-        return;
-    }
-    let fd = os::open_read(&path[..n]);
-    if fd < 0 {
-        os::fail(&path[..n]);
-        return;
-    }
-    answer_job(fd);
-    libc::close(fd);
 }

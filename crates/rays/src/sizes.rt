@@ -42,6 +42,12 @@ pub const DENSITY: usize = 7;
 // The longest line, without its line feed.
 pub const LINE: usize = 32768;
 
+// The buffer that the job is read to: it has room to read on behind the longest line.
+pub const INPUT: usize = 65536;
+
+// The buffer for the argument. The system takes no path that is as long.
+pub const ARGUMENT: usize = 4096;
+
 // More than the answer to a line takes, and the error behind it that the next line is too long. A list of
 // CANDIDATES takes the most, some 1500 bytes: a blank, five digits, a blank and sixteen digits for each.
 pub const ANSWER: usize = 2048;

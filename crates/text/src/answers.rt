@@ -70,7 +70,7 @@ pub fn done(out: &mut [u8], n: usize) -> Answered {
 }
 
 // How the lines of a job were answered, which the figures' last line says.
-#[derive(Drop)]
+#[derive(Clone, Copy)]
 pub struct Tally {
     pub answers: u64,
     pub refusals: u64,
