@@ -4,18 +4,19 @@ use crate::words::{same_float, same_number};
 use path::plain::BounceResult;
 use path::records::{Bounce, Path};
 use path::{bsdf, plain};
+use std::fs::File;
 
-fn same_result(fd: i32, r: BounceResult) -> bool {
-    let start = same_number(fd, r.number) & same_number(fd, r.outcome) & words::same_vec3(fd, r.wi);
-    let density = same_number(fd, r.density.finite) & same_float(fd, r.density.value);
-    let shares = same_number(fd, r.shares.given)
-        & same_float(fd, r.shares.reflected)
-        & same_float(fd, r.shares.passed);
+fn same_result(file: &mut File, r: BounceResult) -> bool {
+    let start = same_number(file, r.number) & same_number(file, r.outcome) & words::same_vec3(file, r.wi);
+    let density = same_number(file, r.density.finite) & same_float(file, r.density.value);
+    let shares = same_number(file, r.shares.given)
+        & same_float(file, r.shares.reflected)
+        & same_float(file, r.shares.passed);
     start & density & shares
 }
 
-fn same_path(fd: i32, path: Path) -> bool {
-    words::same_color(fd, path.lambda) & words::same_color(fd, path.power)
+fn same_path(file: &mut File, path: Path) -> bool {
+    words::same_color(file, path.lambda) & words::same_color(file, path.power)
 }
 
 fn path_of(w: &[f64; 30]) -> Path {
@@ -40,7 +41,7 @@ fn bounce_of(w: &[f64; 30]) -> Bounce {
 }
 
 // Whether the answer of the bounce is the record's.
-pub fn replay(fd: i32, w: &[f64; 30], eta: &[f64], k: &[f64], outer: &[f64]) -> bool {
+pub fn replay(file: &mut File, w: &[f64; 30], eta: &[f64], k: &[f64], outer: &[f64]) -> bool {
     let answer = bsdf::bounce(path_of(w), words::surface(w), eta, k, outer, bounce_of(w));
-    same_result(fd, plain::of_bounced(answer)) & same_path(fd, answer.path())
+    same_result(file, plain::of_bounced(answer)) & same_path(file, answer.path())
 }

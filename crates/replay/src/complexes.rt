@@ -1,9 +1,10 @@
 // Complex numbers.
 use crate::words::{same_complex, same_float};
 use numbers::complex::Complex;
+use std::fs::File;
 
 // Whether the answer of the function `number` is the record's.
-pub fn replay(fd: i32, number: u64, w: &[f64; 30]) -> bool {
+pub fn replay(file: &mut File, number: u64, w: &[f64; 30]) -> bool {
     let a = w[0];
     let b = w[1];
     let c = w[2];
@@ -11,33 +12,33 @@ pub fn replay(fd: i32, number: u64, w: &[f64; 30]) -> bool {
     let y = Complex::new(c, w[3]);
     let x = Complex::new(b, c);
     match number {
-        401 => same_complex(fd, z),
-        402 => same_complex(fd, Complex::from(a)),
-        403 => same_float(fd, Complex::norm_sqr(z)),
-        404 => same_complex(fd, Complex::co(z)),
-        405 => same_complex(fd, Complex::sqrt(z)),
-        406 => same_float(fd, Complex::norm(z)),
-        407 => same_float(fd, Complex::cos_half(z, c)),
-        408 => same_float(fd, Complex::sin_half(z, c)),
-        409 => same_complex(fd, Complex::add(z, y)),
-        410 => same_complex(fd, Complex::float_add(a, x)),
-        411 => same_complex(fd, Complex::sub(z, y)),
-        412 => same_complex(fd, Complex::float_sub(a, x)),
-        413 => same_complex(fd, Complex::mul(z, y)),
-        414 => same_complex(fd, Complex::mul_float(z, c)),
-        415 => same_complex(fd, Complex::float_mul(a, x)),
-        416 => same_complex(fd, Complex::div(z, y)),
-        _ => replay2(fd, number, w),
+        401 => same_complex(file, z),
+        402 => same_complex(file, Complex::from(a)),
+        403 => same_float(file, Complex::norm_sqr(z)),
+        404 => same_complex(file, Complex::co(z)),
+        405 => same_complex(file, Complex::sqrt(z)),
+        406 => same_float(file, Complex::norm(z)),
+        407 => same_float(file, Complex::cos_half(z, c)),
+        408 => same_float(file, Complex::sin_half(z, c)),
+        409 => same_complex(file, Complex::add(z, y)),
+        410 => same_complex(file, Complex::float_add(a, x)),
+        411 => same_complex(file, Complex::sub(z, y)),
+        412 => same_complex(file, Complex::float_sub(a, x)),
+        413 => same_complex(file, Complex::mul(z, y)),
+        414 => same_complex(file, Complex::mul_float(z, c)),
+        415 => same_complex(file, Complex::float_mul(a, x)),
+        416 => same_complex(file, Complex::div(z, y)),
+        _ => replay2(file, number, w),
     }
 }
 
-fn replay2(fd: i32, number: u64, w: &[f64; 30]) -> bool {
+fn replay2(file: &mut File, number: u64, w: &[f64; 30]) -> bool {
     let a = w[0];
     let b = w[1];
     let c = w[2];
     match number {
-        417 => same_complex(fd, Complex::div_float(Complex::new(a, b), c)),
-        418 => same_complex(fd, Complex::float_div(a, Complex::new(b, c))),
+        417 => same_complex(file, Complex::div_float(Complex::new(a, b), c)),
+        418 => same_complex(file, Complex::float_div(a, Complex::new(b, c))),
         _ => false,
     }
 }

@@ -7,37 +7,38 @@ use optics::bxdf::{Reflected, Refracted, Sampled, conductor, dielectric};
 use optics::microfacet::Ggx;
 use optics::{bxdf, microfacet};
 use rulvimba::records;
+use std::fs::File;
 
 // A mirror and a bend are laid out as those that may refuse.
-fn same_reflected(fd: i32, answer: Reflected) -> bool {
+fn same_reflected(file: &mut File, answer: Reflected) -> bool {
     match answer {
         Reflected::Direction(wi) => {
-            same_direction(fd, records::of_reflect(ReflectAnswer::Direction(wi)))
+            same_direction(file, records::of_reflect(ReflectAnswer::Direction(wi)))
         }
-        Reflected::None => same_direction(fd, records::of_reflect(ReflectAnswer::None)),
+        Reflected::None => same_direction(file, records::of_reflect(ReflectAnswer::None)),
     }
 }
 
-fn same_refracted(fd: i32, answer: Refracted) -> bool {
+fn same_refracted(file: &mut File, answer: Refracted) -> bool {
     match answer {
         Refracted::Direction(wi) => {
-            same_direction(fd, records::of_refract(RefractAnswer::Direction(wi)))
+            same_direction(file, records::of_refract(RefractAnswer::Direction(wi)))
         }
-        Refracted::None => same_direction(fd, records::of_refract(RefractAnswer::None)),
-        Refracted::Total => same_direction(fd, records::of_refract(RefractAnswer::Total)),
+        Refracted::None => same_direction(file, records::of_refract(RefractAnswer::None)),
+        Refracted::Total => same_direction(file, records::of_refract(RefractAnswer::Total)),
     }
 }
 
 // 1 for a direction, 2 for none, 3 for total reflection; whether it is a reflection; the direction.
-fn same_scattered(fd: i32, outcome: u64, reflection: bool, wi: Vec3) -> bool {
-    words::same_number(fd, outcome) & words::same_bool(fd, reflection) & words::same_vec3(fd, wi)
+fn same_scattered(file: &mut File, outcome: u64, reflection: bool, wi: Vec3) -> bool {
+    words::same_number(file, outcome) & words::same_bool(file, reflection) & words::same_vec3(file, wi)
 }
 
-fn same_sampled(fd: i32, answer: Sampled) -> bool {
+fn same_sampled(file: &mut File, answer: Sampled) -> bool {
     match answer {
-        Sampled::Direction { wi, reflection } => same_scattered(fd, 1, reflection, wi),
-        Sampled::None => same_scattered(fd, 2, false, Vec3::splat(0.0)),
-        Sampled::Total => same_scattered(fd, 3, false, Vec3::splat(0.0)),
+        Sampled::Direction { wi, reflection } => same_scattered(file, 1, reflection, wi),
+        Sampled::None => same_scattered(file, 2, false, Vec3::splat(0.0)),
+        Sampled::Total => same_scattered(file, 3, false, Vec3::splat(0.0)),
     }
 }
 
@@ -49,53 +50,53 @@ fn facets(w: &[f64; 30], from: u32) -> Ggx {
 
 // Whether the answer of the function `number` is the record's. A sampler has its random numbers where
 // others have the vector u.
-pub fn replay(fd: i32, number: u64, w: &[f64; 30]) -> bool {
+pub fn replay(file: &mut File, number: u64, w: &[f64; 30]) -> bool {
     let mfd = facets(w, 0);
     let v = words::vec3(w, 2);
     let u = words::vec3(w, 5);
     let wh = words::vec3(w, 8);
     match number {
-        901 => words::same_bool(fd, mfd.is_delta()),
-        902 => same_float(fd, mfd.disney_diffuse(v.x, v.y, v.z)),
-        904 => same_float(fd, mfd.d(v)),
-        905 => same_float(fd, mfd.lambda(v)),
-        907 => same_float(fd, mfd.g(v, u, wh)),
-        908 => same_float(fd, mfd.g1(v, u)),
-        909 => same_float(fd, mfd.g_over_g1(v, u, wh)),
-        910 => same_float(fd, mfd.sample_normal_pdf(v, u)),
-        911 => words::same_vec3(fd, mfd.sample_normal(v, u.x, u.y, u.z)),
-        923 => same_sampled(fd, conductor::sample(v, mfd, u.x, u.y, u.z)),
-        925 => same_float(fd, conductor::pdf(v, u, mfd)),
+        901 => words::same_bool(file, mfd.is_delta()),
+        902 => same_float(file, mfd.disney_diffuse(v.x, v.y, v.z)),
+        904 => same_float(file, mfd.d(v)),
+        905 => same_float(file, mfd.lambda(v)),
+        907 => same_float(file, mfd.g(v, u, wh)),
+        908 => same_float(file, mfd.g1(v, u)),
+        909 => same_float(file, mfd.g_over_g1(v, u, wh)),
+        910 => same_float(file, mfd.sample_normal_pdf(v, u)),
+        911 => words::same_vec3(file, mfd.sample_normal(v, u.x, u.y, u.z)),
+        923 => same_sampled(file, conductor::sample(v, mfd, u.x, u.y, u.z)),
+        925 => same_float(file, conductor::pdf(v, u, mfd)),
         926 => {
             let reflection = words::is_true(wh.x);
-            same_float(fd, dielectric::pdf(v, u, reflection, mfd, wh.y, wh.z))
+            same_float(file, dielectric::pdf(v, u, reflection, mfd, wh.y, wh.z))
         }
-        _ => at_facet(fd, number, w),
+        _ => at_facet(file, number, w),
     }
 }
 
 // At one facet, whatever the roughness: Fresnel terms, whether it is seen, a mirror and a bend.
-fn at_facet(fd: i32, number: u64, w: &[f64; 30]) -> bool {
+fn at_facet(file: &mut File, number: u64, w: &[f64; 30]) -> bool {
     let x = words::vec3(w, 0);
     let y = words::vec3(w, 3);
     match number {
-        903 => same_float(fd, microfacet::f_schlick(x.x, x.y, x.z)),
-        906 => words::same_bool(fd, microfacet::chi_pass(x, y)),
-        912 => same_float(fd, microfacet::fr_real(x.x, x.y)),
-        913 => same_float(fd, microfacet::fr_complex(x.x, x.y, x.z)),
-        914 => same_float(fd, microfacet::f_at(x, y, w[6], w[7])),
-        921 => same_reflected(fd, bxdf::reflect(x, y)),
+        903 => same_float(file, microfacet::f_schlick(x.x, x.y, x.z)),
+        906 => words::same_bool(file, microfacet::chi_pass(x, y)),
+        912 => same_float(file, microfacet::fr_real(x.x, x.y)),
+        913 => same_float(file, microfacet::fr_complex(x.x, x.y, x.z)),
+        914 => same_float(file, microfacet::f_at(x, y, w[6], w[7])),
+        921 => same_reflected(file, bxdf::reflect(x, y)),
         922 => {
             let wo = words::vec3(w, 1);
             let n = words::vec3(w, 4);
-            same_refracted(fd, bxdf::refract(x.x, wo, n))
+            same_refracted(file, bxdf::refract(x.x, wo, n))
         }
-        _ => scattered(fd, number, w),
+        _ => scattered(file, number, w),
     }
 }
 
 // The sampler of glass, and the density of either kind.
-fn scattered(fd: i32, number: u64, w: &[f64; 30]) -> bool {
+fn scattered(file: &mut File, number: u64, w: &[f64; 30]) -> bool {
     match number {
         924 => {
             let wo = words::vec3(w, 4);
@@ -110,7 +111,7 @@ fn scattered(fd: i32, number: u64, w: &[f64; 30]) -> bool {
                 random.s2,
                 random.s3,
             );
-            same_sampled(fd, at)
+            same_sampled(file, at)
         }
         927 => {
             let wo = words::vec3(w, 3);
@@ -125,7 +126,7 @@ fn scattered(fd: i32, number: u64, w: &[f64; 30]) -> bool {
                 w[10],
                 w[11],
             );
-            same_float(fd, p)
+            same_float(file, p)
         }
         _ => false,
     }

@@ -3,8 +3,9 @@
 // line of each that differs.
 #![tactic(auto)]
 
-use libc::STDOUT_FILENO;
 use record::Head;
+use std::fs::File;
+use std::io;
 
 mod angles;
 mod bases;
@@ -23,7 +24,7 @@ mod words;
 // Whether there may be more, what was counted in a family so far, the line of the last record, how many
 // entries each spectrum has, and whether glass lies in air: until a record has an outer spectrum it is of ones, as
 // many as eta's entries.
-#[derive(Drop)]
+#[derive(Clone, Copy)]
 struct Tally {
     go: bool,
     family: u64,
@@ -36,41 +37,35 @@ struct Tally {
     air: bool,
 }
 
-fn print(text: &[u8]) {
-    io::write_all(STDOUT_FILENO, text);
+fn print(rt: &impl Print, text: &str) -> io::Result<()> {
+    rt.print(text)
 }
 
-fn print_family(family: u64) {
+fn print_family(rt: &impl Print, family: u64) -> io::Result<()> {
     match family {
-        1 => print(b"floats"),
-        2 => print(b"vectors of two"),
-        3 => print(b"vectors of three"),
-        4 => print(b"complex numbers"),
-        5 => print(b"bases"),
-        6 => print(b"angles"),
-        7 => print(b"spectra"),
-        8 => print(b"checked calls"),
-        9 => print(b"optics"),
-        10 => print(b"bounces"),
-        11 => print(b"optics, not in air"),
-        12 => print(b"bounces, not in air"),
-        _ => print(b"unknown"),
+        1 => print(rt, "floats"),
+        2 => print(rt, "vectors of two"),
+        3 => print(rt, "vectors of three"),
+        4 => print(rt, "complex numbers"),
+        5 => print(rt, "bases"),
+        6 => print(rt, "angles"),
+        7 => print(rt, "spectra"),
+        8 => print(rt, "checked calls"),
+        9 => print(rt, "optics"),
+        10 => print(rt, "bounces"),
+        11 => print(rt, "optics, not in air"),
+        12 => print(rt, "bounces, not in air"),
+        _ => print(rt, "unknown"),
     }
 }
 
-fn print_counts(t: Tally) {
-    print_family(t.family);
-    print(b": ");
-    io::print_decimal(STDOUT_FILENO, t.records);
-    print(b" records, ");
-    io::print_decimal(STDOUT_FILENO, t.differences);
-    print(b" differ\n");
+fn print_counts(rt: &impl Print, t: Tally) -> io::Result<()> {
+    print_family(rt, t.family)?;
+    println!(rt; ": {} records, {} differ", t.records, t.differences)
 }
 
-fn print_difference(line: u64) {
-    print(b"line ");
-    io::print_decimal(STDOUT_FILENO, line);
-    print(b" differs\n");
+fn print_difference(rt: &impl Print, line: u64) -> io::Result<()> {
+    println!(rt; "line {line} differs")
 }
 
 // One more, of no more than a file has.
@@ -82,23 +77,23 @@ fn next(n: u64) -> u64 {
 }
 
 // Whether the libraries' answer is the record's. A spectrum of numbers is in the place of eta.
-fn same(fd: i32, number: u64, w: &[f64; 30], eta: &[f64], k: &[f64], outer: &[f64]) -> bool {
+fn same(file: &mut File, number: u64, w: &[f64; 30], eta: &[f64], k: &[f64], outer: &[f64]) -> bool {
     if number == 990 {
-        return bounces::replay(fd, w, eta, k, outer);
+        return bounces::replay(file, w, eta, k, outer);
     }
     if number > 930 {
-        return surfaces::replay(fd, number, w, eta, k, outer);
+        return surfaces::replay(file, number, w, eta, k, outer);
     }
     match number / 100 {
-        1 => scalars::replay(fd, number, w),
-        2 => vectors2::replay(fd, number, w),
-        3 => vectors3::replay(fd, number, w),
-        4 => complexes::replay(fd, number, w),
-        5 => bases::replay(fd, number, w),
-        6 => angles::replay(fd, number, w),
-        7 => spectra::replay(fd, number, w, eta),
-        8 => checked::replay(fd, number, w, eta),
-        _ => facets::replay(fd, number, w),
+        1 => scalars::replay(file, number, w),
+        2 => vectors2::replay(file, number, w),
+        3 => vectors3::replay(file, number, w),
+        4 => complexes::replay(file, number, w),
+        5 => bases::replay(file, number, w),
+        6 => angles::replay(file, number, w),
+        7 => spectra::replay(file, number, w, eta),
+        8 => checked::replay(file, number, w, eta),
+        _ => facets::replay(file, number, w),
     }
 }
 
@@ -110,34 +105,34 @@ fn family_of(number: u64, air: bool) -> u64 {
 }
 
 // A tally of the family, which a new family begins anew.
-fn of_family(mut t: Tally, family: u64) -> Tally {
+fn of_family(rt: &impl Print, mut t: Tally, family: u64) -> io::Result<Tally> {
     if t.family == family {
-        return t;
+        return Ok(t);
     }
     if 0 < t.records {
-        print_counts(t);
+        print_counts(rt, t)?;
     }
     t.family = family;
     t.records = 0;
     t.differences = 0;
-    t
+    Ok(t)
 }
 
 // One record more.
-fn counted(mut t: Tally, same: bool) -> Tally {
+fn counted(rt: &impl Print, mut t: Tally, same: bool) -> io::Result<Tally> {
     t.records = next(t.records);
     if same {
-        return t;
+        return Ok(t);
     }
-    print_difference(t.line);
+    print_difference(rt, t.line)?;
     t.differences = next(t.differences);
-    t
+    Ok(t)
 }
 
 // A record that has the entries of a spectrum, or the first of 95 or of 471, which stand by turns; how many there
 // are.
-fn read_spectrum(fd: i32, head: Head, values: &mut [f64]) -> usize {
-    record::read_entries(fd, head.ins, values);
+fn read_spectrum(file: &mut File, head: Head, values: &mut [f64]) -> usize {
+    record::read_entries(file, head.ins, values);
     let n = (head.ins % 256) as usize;
     if head.number % 10 == 0 {
         return n;
@@ -155,62 +150,76 @@ fn is_eta(number: u64) -> bool {
 
 // Reads what follows the head of a record, and answers the tally with it.
 fn step_after(
-    fd: i32,
+    rt: &impl Print,
+    file: &mut File,
     mut t: Tally,
     head: Head,
     eta: &mut [f64],
     k: &mut [f64],
     outer: &mut [f64],
-) -> Tally {
+) -> io::Result<Tally> {
     if is_eta(head.number) {
-        t.eta = read_spectrum(fd, head, eta);
+        t.eta = read_spectrum(file, head, eta);
         if t.air {
             t.outer = t.eta;
         }
-        return t;
+        return Ok(t);
     }
     if head.number / 10 == 98 {
-        t.k = read_spectrum(fd, head, k);
-        return t;
+        t.k = read_spectrum(file, head, k);
+        return Ok(t);
     }
     if head.number / 10 == 94 {
-        t.outer = read_spectrum(fd, head, outer);
+        t.outer = read_spectrum(file, head, outer);
         t.air = false;
-        return t;
+        return Ok(t);
     }
     let mut w = [0.0; 30];
-    record::read_entries(fd, head.ins, &mut w);
+    record::read_entries(file, head.ins, &mut w);
     let n = t.eta;
     let m = t.k;
     let l = t.outer;
-    let now = of_family(t, family_of(head.number, t.air));
+    let now = of_family(rt, t, family_of(head.number, t.air))?;
     let same = same(
-        fd,
+        file,
         head.number,
         &w,
         record::first(eta, n),
         record::first(k, m),
         record::first(outer, l),
     );
-    counted(now, same)
+    counted(rt, now, same)
 }
 
 // Reads a record, and answers the tally with it; at the end of the file one that doesn't go on.
-fn step(fd: i32, mut t: Tally, eta: &mut [f64], k: &mut [f64], outer: &mut [f64]) -> Tally {
-    let head = record::read_head(fd);
+fn step(
+    rt: &impl Print,
+    file: &mut File,
+    mut t: Tally,
+    eta: &mut [f64],
+    k: &mut [f64],
+    outer: &mut [f64],
+) -> io::Result<Tally> {
+    let head = record::read_head(file);
     if !head.there {
-        print_counts(t);
+        print_counts(rt, t)?;
         t.go = false;
-        return t;
+        return Ok(t);
     }
     t.line = next(t.line);
-    let now = step_after(fd, t, head, eta, k, outer);
-    record::line_end(fd);
-    now
+    let now = step_after(rt, file, t, head, eta, k, outer)?;
+    record::line_end(file);
+    Ok(now)
 }
 
 // A proved loop has to end, so it counts its turns.
-fn replay(fd: i32, eta: &mut [f64], k: &mut [f64], outer: &mut [f64]) {
+fn replay(
+    rt: &impl Print,
+    file: &mut File,
+    eta: &mut [f64],
+    k: &mut [f64],
+    outer: &mut [f64],
+) -> io::Result<()> {
     let mut t = Tally {
         go: true,
         family: 0,
@@ -224,27 +233,26 @@ fn replay(fd: i32, eta: &mut [f64], k: &mut [f64], outer: &mut [f64]) {
     };
     let mut turns: u64 = 1000000000;
     while turns > 0 && t.go {
-        t = step(fd, t, eta, k, outer);
+        t = step(rt, file, t, eta, k, outer)?;
         turns -= 1;
     }
+    Ok(())
 }
 
-fn replay_file(name: &[u8]) {
-    let fd = os::open_read(name);
-    if fd < 0 {
-        os::fail(name);
-        return;
-    }
+fn replay_file(rt: &HostRuntime, name: &str) -> io::Result<()> {
+    let mut file = match File::open(rt, name) {
+        Ok(file) => file,
+        Err(why) => return eprintln!(rt; "{name}: {why}"),
+    };
     let mut eta = [0.0; 471];
     let mut k = [0.0; 471];
     let mut outer = [1.0; 471];
-    replay(fd, &mut eta, &mut k, &mut outer);
-    libc::close(fd);
+    replay(rt, &mut file, &mut eta, &mut k, &mut outer)
 }
 
-fn main() {
-    replay_file(b"numbers.hex");
-    replay_file(b"optics.hex");
-    replay_file(b"path.hex");
-    replay_file(b"outer.hex");
+fn main(rt: HostRuntime) -> io::Result<()> {
+    replay_file(&rt, "numbers.hex")?;
+    replay_file(&rt, "optics.hex")?;
+    replay_file(&rt, "path.hex")?;
+    replay_file(&rt, "outer.hex")
 }

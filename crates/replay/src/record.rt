@@ -1,59 +1,67 @@
 // Records of the sample: a function's number, how many words go in and come out, and the words.
 //
 //   NNN II O WORD .. WORD      in decimal, and each word 16 hexadecimal digits
+use std::fs::File;
+use std::io::Read;
 use text::words::part;
 use text::{digits, patterns};
 
 // What a record begins with; how many words come out is known by the function.
-#[derive(Drop)]
+#[derive(Clone, Copy)]
 pub struct Head {
     pub there: bool,
     pub number: u64,
     pub ins: u64,
 }
 
+// Reads bytes as many as there is room for, and whether the file had them. A read that fails counts as the
+// file's end: what is missing then is counted as a difference, or as a record that isn't there.
+fn fill(file: &mut File, bytes: &mut [u8]) -> bool {
+    file.read_exact(bytes).is_ok()
+}
+
 // The head of the next record, if there is one.
-pub fn read_head(fd: i32) -> Head {
+pub fn read_head(file: &mut File) -> Head {
     let mut text = [0u8; 8];
-    let n = io::read_full(fd, &mut text);
+    let there = fill(file, &mut text);
     Head {
-        there: n == 8,
+        there,
         number: digits::decimal(part(&text, 0, 3)),
         ins: digits::decimal(part(&text, 4, 6)),
     }
 }
 
 // Reads past the end of a line.
-pub fn line_end(fd: i32) {
+pub fn line_end(file: &mut File) {
     let mut text = [0u8; 1];
-    io::read_full(fd, &mut text);
+    fill(file, &mut text);
 }
 
 // The next word, and 0 where it is none.
-pub fn word(fd: i32) -> u64 {
+pub fn word(file: &mut File) -> u64 {
     let mut t = [0u8; 17];
-    io::read_full(fd, &mut t);
+    fill(file, &mut t);
     let read = digits::hex16(part(&t, 1, 17));
     read.bits
 }
 
 // The next word where there is one, and otherwise 0.
-fn word_if(fd: i32, there: bool) -> u64 {
+fn word_if(file: &mut File, there: bool) -> u64 {
     if there {
-        return word(fd);
+        return word(file);
     }
     0
 }
 
-pub fn float_if(fd: i32, there: bool) -> f64 {
-    patterns::of_bits(word_if(fd, there))
+pub fn float_if(file: &mut File, there: bool) -> f64 {
+    patterns::of_bits(word_if(file, there))
 }
 
 // The entries of a spectrum, of which `n` are there.
-pub fn read_entries(fd: i32, n: u64, entries: &mut [f64]) {
+pub fn read_entries(file: &mut File, n: u64, entries: &mut [f64]) {
     let mut i: usize = 0;
     while i < entries.len() {
-        entries[i] = float_if(fd, (i as u64) < n);
+        entries[i] = float_if(file, (i as u64) < n);
         i += 1;
     }
 }

@@ -2,41 +2,42 @@
 use crate::words;
 use crate::words::{same_float, same_vec2, same_vec3};
 use numbers::vec2::Vec2;
+use std::fs::File;
 
 // Whether the answer of the function `number` is the record's.
-pub fn replay(fd: i32, number: u64, w: &[f64; 30]) -> bool {
+pub fn replay(file: &mut File, number: u64, w: &[f64; 30]) -> bool {
     let a = words::vec2(w, 0);
     let b = words::vec2(w, 2);
     let x = w[2];
     match number {
-        201 => same_vec2(fd, Vec2::new(a.x, a.y)),
-        202 => same_vec2(fd, Vec2::splat(a.x)),
-        203 => same_vec3(fd, Vec2::extend(a, x)),
-        204 => same_float(fd, Vec2::dot(a, b)),
-        205 => same_vec2(fd, Vec2::abs(a)),
-        206 => same_vec2(fd, Vec2::min(a, b)),
-        207 => same_vec2(fd, Vec2::max(a, b)),
-        208 => same_vec2(fd, Vec2::negate(a)),
-        209 => same_vec2(fd, Vec2::add(a, b)),
-        210 => same_vec2(fd, Vec2::sub(a, b)),
-        211 => same_vec2(fd, Vec2::mul(a, b)),
-        212 => same_vec2(fd, Vec2::div(a, b)),
-        213 => same_vec2(fd, Vec2::add_float(a, x)),
-        214 => same_vec2(fd, Vec2::sub_float(a, x)),
-        215 => same_vec2(fd, Vec2::mul_float(a, x)),
-        216 => same_vec2(fd, Vec2::div_float(a, x)),
-        _ => replay2(fd, number, w),
+        201 => same_vec2(file, Vec2::new(a.x, a.y)),
+        202 => same_vec2(file, Vec2::splat(a.x)),
+        203 => same_vec3(file, Vec2::extend(a, x)),
+        204 => same_float(file, Vec2::dot(a, b)),
+        205 => same_vec2(file, Vec2::abs(a)),
+        206 => same_vec2(file, Vec2::min(a, b)),
+        207 => same_vec2(file, Vec2::max(a, b)),
+        208 => same_vec2(file, Vec2::negate(a)),
+        209 => same_vec2(file, Vec2::add(a, b)),
+        210 => same_vec2(file, Vec2::sub(a, b)),
+        211 => same_vec2(file, Vec2::mul(a, b)),
+        212 => same_vec2(file, Vec2::div(a, b)),
+        213 => same_vec2(file, Vec2::add_float(a, x)),
+        214 => same_vec2(file, Vec2::sub_float(a, x)),
+        215 => same_vec2(file, Vec2::mul_float(a, x)),
+        216 => same_vec2(file, Vec2::div_float(a, x)),
+        _ => replay2(file, number, w),
     }
 }
 
-fn replay2(fd: i32, number: u64, w: &[f64; 30]) -> bool {
+fn replay2(file: &mut File, number: u64, w: &[f64; 30]) -> bool {
     let x = w[0];
     let c = words::vec2(w, 1);
     match number {
-        217 => same_vec2(fd, Vec2::float_add(x, c)),
-        218 => same_vec2(fd, Vec2::float_sub(x, c)),
-        219 => same_vec2(fd, Vec2::float_mul(x, c)),
-        220 => same_vec2(fd, Vec2::float_div(x, c)),
+        217 => same_vec2(file, Vec2::float_add(x, c)),
+        218 => same_vec2(file, Vec2::float_sub(x, c)),
+        219 => same_vec2(file, Vec2::float_mul(x, c)),
+        220 => same_vec2(file, Vec2::float_div(x, c)),
         _ => false,
     }
 }

@@ -10,6 +10,7 @@ use optics::microfacet::{Kind, Surface};
 use rulvimba::records;
 use rulvimba::records::DirectionResult;
 use text::patterns;
+use std::fs::File;
 
 // ---- in
 pub fn is_true(x: f64) -> bool {
@@ -69,57 +70,57 @@ pub fn color(w: &[f64; 30], from: u32) -> Color {
 }
 
 // ---- out: whether the record's next words are these. Each is read, whatever those before it were.
-pub fn same_number(fd: i32, n: u64) -> bool {
-    record::word(fd) == n
+pub fn same_number(file: &mut File, n: u64) -> bool {
+    record::word(file) == n
 }
 
-pub fn same_bool(fd: i32, b: bool) -> bool {
-    same_number(fd, b as u64)
+pub fn same_bool(file: &mut File, b: bool) -> bool {
+    same_number(file, b as u64)
 }
 
-pub fn same_float(fd: i32, x: f64) -> bool {
-    same_number(fd, patterns::bits(x))
+pub fn same_float(file: &mut File, x: f64) -> bool {
+    same_number(file, patterns::bits(x))
 }
 
-pub fn same_vec2(fd: i32, v: Vec2) -> bool {
-    same_float(fd, v.x) & same_float(fd, v.y)
+pub fn same_vec2(file: &mut File, v: Vec2) -> bool {
+    same_float(file, v.x) & same_float(file, v.y)
 }
 
-pub fn same_vec3(fd: i32, v: Vec3) -> bool {
-    same_float(fd, v.x) & same_float(fd, v.y) & same_float(fd, v.z)
+pub fn same_vec3(file: &mut File, v: Vec3) -> bool {
+    same_float(file, v.x) & same_float(file, v.y) & same_float(file, v.z)
 }
 
-pub fn same_complex(fd: i32, z: Complex) -> bool {
-    same_float(fd, z.Re) & same_float(fd, z.Im)
+pub fn same_complex(file: &mut File, z: Complex) -> bool {
+    same_float(file, z.Re) & same_float(file, z.Im)
 }
 
-pub fn same_basis(fd: i32, b: Onb) -> bool {
-    same_vec3(fd, b.u) & same_vec3(fd, b.v) & same_vec3(fd, b.w)
+pub fn same_basis(file: &mut File, b: Onb) -> bool {
+    same_vec3(file, b.u) & same_vec3(file, b.v) & same_vec3(file, b.w)
 }
 
-pub fn same_color(fd: i32, a: Color) -> bool {
-    same_float(fd, a.s0) & same_float(fd, a.s1) & same_float(fd, a.s2) & same_float(fd, a.s3)
+pub fn same_color(file: &mut File, a: Color) -> bool {
+    same_float(file, a.s0) & same_float(file, a.s1) & same_float(file, a.s2) & same_float(file, a.s3)
 }
 
 // ---- answers that may be a refusal: document 01's number, 0 where a value is given, and the value
-pub fn same_float_answer(fd: i32, answer: FloatAnswer) -> bool {
+pub fn same_float_answer(file: &mut File, answer: FloatAnswer) -> bool {
     let r = records::of_float(answer);
-    same_number(fd, r.number) & same_float(fd, r.value)
+    same_number(file, r.number) & same_float(file, r.value)
 }
 
-pub fn same_vec3_answer(fd: i32, answer: Vec3Answer) -> bool {
+pub fn same_vec3_answer(file: &mut File, answer: Vec3Answer) -> bool {
     let r = records::of_vec3(answer);
-    same_number(fd, r.number) & same_vec3(fd, r.value)
+    same_number(file, r.number) & same_vec3(file, r.value)
 }
 
-pub fn same_bool_answer(fd: i32, answer: BoolAnswer) -> bool {
+pub fn same_bool_answer(file: &mut File, answer: BoolAnswer) -> bool {
     match answer {
-        BoolAnswer::Refused(why) => same_number(fd, why.number()) & same_bool(fd, false),
-        BoolAnswer::Given(b) => same_number(fd, 0) & same_bool(fd, b),
+        BoolAnswer::Refused(why) => same_number(file, why.number()) & same_bool(file, false),
+        BoolAnswer::Given(b) => same_number(file, 0) & same_bool(file, b),
     }
 }
 
 // A mirror's or a bend's.
-pub fn same_direction(fd: i32, r: DirectionResult) -> bool {
-    same_number(fd, r.number) & same_number(fd, r.outcome) & same_vec3(fd, r.direction)
+pub fn same_direction(file: &mut File, r: DirectionResult) -> bool {
+    same_number(file, r.number) & same_number(file, r.outcome) & same_vec3(file, r.direction)
 }

@@ -6,14 +6,15 @@
 use candidates::candidate::Candidate;
 use candidates::list;
 use candidates::list::ROOM;
-use libc::STDOUT_FILENO;
 use numbers::refusal::Check;
 use record::{Head, Kind};
+use std::fs::File;
+use std::io;
 
 mod record;
 
 // Whether there may be more, the line of the last record, and what was counted so far.
-#[derive(Drop)]
+#[derive(Clone, Copy)]
 struct Tally {
     go: bool,
     line: u64,
@@ -22,28 +23,28 @@ struct Tally {
     differences: u64,
 }
 
-fn print(text: &[u8]) {
-    io::write_all(STDOUT_FILENO, text);
+fn print(rt: &impl Print, text: &str) -> io::Result<()> {
+    rt.print(text)
 }
 
-fn print_number(n: u64) {
-    io::print_decimal(STDOUT_FILENO, n);
+fn print_number(rt: &impl Print, n: u64) -> io::Result<()> {
+    rt.print(n)
 }
 
-fn print_counts(t: Tally) {
-    print(b"candidates: ");
-    print_number(t.calls);
-    print(b" calls in ");
-    print_number(t.lists);
-    print(b" lists, ");
-    print_number(t.differences);
-    print(b" differ\n");
+fn print_counts(rt: &impl Print, t: Tally) -> io::Result<()> {
+    print(rt, "candidates: ")?;
+    print_number(rt, t.calls)?;
+    print(rt, " calls in ")?;
+    print_number(rt, t.lists)?;
+    print(rt, " lists, ")?;
+    print_number(rt, t.differences)?;
+    print(rt, " differ\n")
 }
 
-fn print_first(line: u64) {
-    print(b"line ");
-    print_number(line);
-    print(b" is the first that differs\n");
+fn print_first(rt: &impl Print, line: u64) -> io::Result<()> {
+    print(rt, "line ")?;
+    print_number(rt, line)?;
+    print(rt, " is the first that differs\n")
 }
 
 // One more, of no more than a file has.
@@ -63,16 +64,16 @@ fn number_of(check: Check) -> u64 {
 }
 
 // One call more.
-fn counted(mut t: Tally, same: bool) -> Tally {
+fn counted(rt: &impl Print, mut t: Tally, same: bool) -> io::Result<Tally> {
     t.calls = next(t.calls);
     if same {
-        return t;
+        return Ok(t);
     }
     if t.differences == 0 {
-        print_first(t.line);
+        print_first(rt, t.line)?;
     }
     t.differences = next(t.differences);
-    t
+    Ok(t)
 }
 
 // Runs the call of a record; the number of its answer.
@@ -93,7 +94,7 @@ fn call(count: &mut usize, ids: &mut [u16; ROOM], densities: &mut [f64; ROOM], h
 // Runs the call of a record, and whether what it gave is the record's: the number, how many are present,
 // and each of them. All entries of the record are read, whatever came before.
 fn same(
-    fd: i32,
+    file: &mut File,
     count: &mut usize,
     ids: &mut [u16; ROOM],
     densities: &mut [f64; ROOM],
@@ -101,7 +102,7 @@ fn same(
 ) -> bool {
     let number = call(count, ids, densities, head);
     let present = *count;
-    let entries = record::same_entries(fd, head.entries, ids, densities);
+    let entries = record::same_entries(file, head.entries, ids, densities);
     (number == head.number) & ((present as u64) == head.entries) & entries
 }
 
@@ -114,41 +115,49 @@ fn begin(count: &mut usize, mut t: Tally) -> Tally {
 
 // What a record's head asks for.
 fn step_after(
-    fd: i32,
+    rt: &impl Print,
+    file: &mut File,
     t: Tally,
     head: Head,
     count: &mut usize,
     ids: &mut [u16; ROOM],
     densities: &mut [f64; ROOM],
-) -> Tally {
+) -> io::Result<Tally> {
     let kind = head.kind;
     match kind {
-        Kind::Begin => begin(count, t),
-        _ => counted(t, same(fd, count, ids, densities, head)),
+        Kind::Begin => Ok(begin(count, t)),
+        _ => counted(rt, t, same(file, count, ids, densities, head)),
     }
 }
 
 // Reads a record, and answers the tally with it; at the end of the file one that doesn't go on.
 fn step(
-    fd: i32,
+    rt: &impl Print,
+    file: &mut File,
     mut t: Tally,
     count: &mut usize,
     ids: &mut [u16; ROOM],
     densities: &mut [f64; ROOM],
-) -> Tally {
-    let head = record::read_head(fd);
+) -> io::Result<Tally> {
+    let head = record::read_head(file);
     if !head.there {
         t.go = false;
-        return t;
+        return Ok(t);
     }
     t.line = next(t.line);
-    let now = step_after(fd, t, head, count, ids, densities);
-    record::line_end(fd);
-    now
+    let now = step_after(rt, file, t, head, count, ids, densities)?;
+    record::line_end(file);
+    Ok(now)
 }
 
 // A proved loop has to end, so it counts its turns.
-fn replay(fd: i32, count: &mut usize, ids: &mut [u16; ROOM], densities: &mut [f64; ROOM]) -> Tally {
+fn replay(
+    rt: &impl Print,
+    file: &mut File,
+    count: &mut usize,
+    ids: &mut [u16; ROOM],
+    densities: &mut [f64; ROOM],
+) -> io::Result<Tally> {
     let mut t = Tally {
         go: true,
         line: 0,
@@ -158,25 +167,24 @@ fn replay(fd: i32, count: &mut usize, ids: &mut [u16; ROOM], densities: &mut [f6
     };
     let mut turns: u64 = 1000000000;
     while turns > 0 && t.go {
-        t = step(fd, t, count, ids, densities);
+        t = step(rt, file, t, count, ids, densities)?;
         turns -= 1;
     }
-    t
+    Ok(t)
 }
 
-fn replay_file(name: &[u8]) {
-    let fd = os::open_read(name);
-    if fd < 0 {
-        os::fail(name);
-        return;
-    }
+fn replay_file(rt: &HostRuntime, name: &str) -> io::Result<()> {
+    let mut file = match File::open(rt, name) {
+        Ok(file) => file,
+        Err(why) => return eprintln!(rt; "{name}: {why}"),
+    };
     let mut count: usize = 0;
     let mut ids = [0u16; ROOM];
     let mut densities = [0.0; ROOM];
-    print_counts(replay(fd, &mut count, &mut ids, &mut densities));
-    libc::close(fd);
+    let counts = replay(rt, &mut file, &mut count, &mut ids, &mut densities)?;
+    print_counts(rt, counts)
 }
 
-fn main() {
-    replay_file(b"candidates.hex");
+fn main(rt: HostRuntime) -> io::Result<()> {
+    replay_file(&rt, "candidates.hex")
 }

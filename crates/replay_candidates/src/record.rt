@@ -4,10 +4,12 @@
 //
 // data/README says what each is.
 use candidates::list::ROOM;
+use std::fs::File;
+use std::io::Read;
 use text::words::part;
 use text::{digits, patterns};
 
-#[derive(Drop)]
+#[derive(Clone, Copy)]
 pub enum Kind {
     // nobody is present
     Begin,
@@ -16,7 +18,7 @@ pub enum Kind {
 }
 
 // What a record begins with: the call, its number and how many entries follow.
-#[derive(Drop)]
+#[derive(Clone, Copy)]
 pub struct Head {
     pub there: bool,
     pub kind: Kind,
@@ -50,12 +52,18 @@ fn density_of(t: &[u8]) -> f64 {
     patterns::of_bits(read.bits)
 }
 
+// Reads bytes as many as there is room for, and whether the file had them. A read that fails counts as the
+// file's end: what is missing then is counted as a difference, or as a record that isn't there.
+fn fill(file: &mut File, bytes: &mut [u8]) -> bool {
+    file.read_exact(bytes).is_ok()
+}
+
 // The head of the next record, if there is one.
-pub fn read_head(fd: i32) -> Head {
+pub fn read_head(file: &mut File) -> Head {
     let mut t = [0u8; 29];
-    let n = io::read_full(fd, &mut t);
+    let there = fill(file, &mut t);
     Head {
-        there: n == 29,
+        there,
         kind: kind_of(t[0]),
         id: id_of(t[2], t[3], t[4], t[5]),
         density: density_of(part(&t, 7, 23)),
@@ -65,33 +73,33 @@ pub fn read_head(fd: i32) -> Head {
 }
 
 // Reads past the end of a line.
-pub fn line_end(fd: i32) {
+pub fn line_end(file: &mut File) {
     let mut text = [0u8; 1];
-    io::read_full(fd, &mut text);
+    fill(file, &mut text);
 }
 
 // Reads an entry, and whether it is this one.
-fn same_entry(fd: i32, id: u16, density: f64) -> bool {
+fn same_entry(file: &mut File, id: u16, density: f64) -> bool {
     let mut t = [0u8; 22];
-    io::read_full(fd, &mut t);
+    fill(file, &mut t);
     let read = digits::hex16(part(&t, 6, 22));
     (id_of(t[1], t[2], t[3], t[4]) == id) & (read.bits == patterns::bits(density))
 }
 
 // Reads the entry of a place, where there is one. Past the places of a list there is none.
-fn same_at(fd: i32, ids: &[u16; ROOM], densities: &[f64; ROOM], i: usize) -> bool {
+fn same_at(file: &mut File, ids: &[u16; ROOM], densities: &[f64; ROOM], i: usize) -> bool {
     if i < ROOM {
-        return same_entry(fd, ids[i], densities[i]);
+        return same_entry(file, ids[i], densities[i]);
     }
     false
 }
 
 // Whether the next `n` entries are the first of the list.
-pub fn same_entries(fd: i32, n: u64, ids: &[u16; ROOM], densities: &[f64; ROOM]) -> bool {
+pub fn same_entries(file: &mut File, n: u64, ids: &[u16; ROOM], densities: &[f64; ROOM]) -> bool {
     let mut same = true;
     let mut i: usize = 0;
     while (i as u64) < n {
-        same = same_at(fd, ids, densities, i) & same;
+        same = same_at(file, ids, densities, i) & same;
         i += 1;
     }
     same
