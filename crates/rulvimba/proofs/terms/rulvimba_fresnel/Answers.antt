@@ -1,0 +1,6 @@
+-- `rulvimba::terms::rulvimba_fresnel` meets its contract: the surface, the answer and its layout.
+use borrow.Author.Rules.{rules}
+use Rattle.rulvimba.proofs.terms.rulvimba_fresnel.Goals as goal
+
+pub returns : goal.returns
+returns c = rw (← c.of_record.ensures, ← c.f.ensures, ← c.of_color.ensures)

@@ -1,8 +1,0 @@
--- `rulvimba::terms::rulvimba_fresnel` meets its contract: the surface, the answer and its layout.
-use borrow.Author.Rules.{rules}
-use Rattle.rulvimba.proofs.terms.rulvimba_fresnel.Statement.{statement}
-use Rattle.rulvimba.proofs.terms.rulvimba_fresnel.Tie as tie
-
-pub rulvimba_fresnel_spec : {M : Type 1} → statement M
-rulvimba_fresnel_spec = tie.close (tie.spec (λ c κs. search rules) (λ c κs. search rules) (λ c κs. search rules)
-    (λ c. rw (← c.before.before.of-record.ensures, ← c.before.f.ensures, ← c.of-color.ensures)))
