@@ -1,0 +1,6 @@
+-- `optics_f` meets its contract: the Fresnel terms, on the kind of the code.
+use borrow.Author.Rules.{rules}
+use Rattle.compare_path.proofs.microfacet.optics_f.Goals as goal
+
+pub returns : goal.returns
+returns c = rw (c.f.ensures, c.of_code.ensures)
