@@ -1,6 +1,6 @@
 -- Laws of what a job holds: a path that is kept is the path that is handed out, the others stay, and there is room for as many as before.
 use Prim.Native.Nat.{ℕ, ◌+◌, ◌*◌, ◌%◌, ◌≤◌, ◌<◌}
-use mathlib.Core.Path.{◌≡◌, refl, sym, ap, ◌∙◌}
+use mathlib.Core.Path.{◌≡◌, refl, ap, ◌∙◌}
 use mathlib.Core.Logic.{◌≢◌, inl, inr}
 use mathlib.Core.List.{List}
 use native.Mathlib.Nat.{le_antisymm}

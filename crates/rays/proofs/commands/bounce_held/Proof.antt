@@ -5,8 +5,8 @@ use Rattle.rays.proofs.commands.bounce_held.Tie as tie
 
 returns : tie.Need-returns
 returns c = (
-  rw (← c.before.before.before.before.before.before.path.ensures) c.before.before.before.before.before.bounce.ensures,
-  rw (← c.before.before.before.path2.ensures) c.before.before.keep-path.ensures,
+  rw (← c.before.before.before.before.before.before.path.ensures) c.before.before.before.before.before.bounce-answer.ensures,
+  rw (← c.before.before.before.path-2.ensures) c.before.before.keep_path.ensures,
 )
 
 pub bounce_held_spec : {M : Type 1} → statement M

@@ -8,20 +8,20 @@ use borrow.Author.Tests.{ltb-true}
 use Rattle.rays.proofs.list.all.Statement.{statement}
 use Rattle.rays.proofs.list.all.Tie as tie
 
-abbrev invariant-loop : tie.invariant-loop
+abbrev invariant-loop : tie.invariant-loop-i
 invariant-loop out₀ n count ids densities used₀ i₀ out used i = length out ≡ length out₀
 
-abbrev decreases-loop : tie.decreases-loop
+abbrev decreases-loop : tie.decreases-loop-i
 decreases-loop out₀ n count ids densities used₀ i₀ out used i = count - i
 
-loop-again : tie.Need-loop-preserved invariant-loop decreases-loop
-loop-again c = search (rules, c.before.before.before.before.before.before.before.before.loop.invariant)
+loop-again : tie.Need-loop-i-preserved invariant-loop decreases-loop
+loop-again c = search (rules, c.before.before.before.before.before.before.before.before.loop-i.invariant)
 
-same_length : tie.Need-same-length invariant-loop decreases-loop
-same_length c = c.before.before.loop.invariant
+same_length : tie.Need-shape_of-out-else-i-lt-CANDIDATES invariant-loop decreases-loop
+same_length c = c.before.before.loop-i.invariant
 
-same_length_2 : tie.Need-same-length-2 invariant-loop decreases-loop
-same_length_2 c = c.before.loop.invariant
+same_length_2 : tie.Need-shape_of-out-after-loop-i invariant-loop decreases-loop
+same_length_2 c = c.before.loop-i.invariant
 
 pub all_spec : {M : Type 1} → statement M
 all_spec =

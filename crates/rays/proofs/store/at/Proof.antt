@@ -7,7 +7,7 @@ use borrow.Author.Rules.{rules}
 use Rattle.rays.proofs.store.at.Statement.{statement}
 use Rattle.rays.proofs.store.at.Tie as tie
 
-returns-2 : tie.Need-returns-2
+returns-2 : tie.Need-returns
 returns-2 c = c.nan.ensures ∙ sym (get_or-eq_default c.before.before.before.args.values.now nan {n = c.before.before.before.args.i} (omega arith))
 
 pub at_spec : {M : Type 1} → statement M

@@ -6,7 +6,7 @@ use Rattle.rays.proofs.store.color.Tie as tie
 
 returns : tie.Need-returns
 unfolding color_at
-returns c = rw (← c.before.before.before.at.ensures, ← c.before.before.at2.ensures, ← c.before.at3.ensures, ← c.at4.ensures)
+returns c = rw (← c.before.before.before.at.ensures, ← c.before.before.at-2.ensures, ← c.before.at-3.ensures, ← c.at-4.ensures)
 
 pub color_spec : {M : Type 1} → statement M
 color_spec =

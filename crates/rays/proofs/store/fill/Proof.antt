@@ -7,20 +7,20 @@ use borrow.Author.Rules.{rules}
 use Rattle.rays.proofs.store.fill.Statement.{statement}
 use Rattle.rays.proofs.store.fill.Tie as tie
 
-abbrev invariant-loop : tie.invariant-loop
+abbrev invariant-loop : tie.invariant-loop-i
 invariant-loop values₀ x i₀ values i = length values ≡ length values₀
 
-abbrev decreases-loop : tie.decreases-loop
+abbrev decreases-loop : tie.decreases-loop-i
 decreases-loop values₀ x i₀ values i = length values₀ - i
 
-loop-less : tie.Need-loop-smaller invariant-loop decreases-loop
-loop-less c = omega (arith, c.before.loop.invariant)
+loop-less : tie.Need-loop-i-smaller invariant-loop decreases-loop
+loop-less c = omega (arith, c.before.loop-i.invariant)
 
-loop-again : tie.Need-loop-preserved invariant-loop decreases-loop
-loop-again c = length-set c.before.loop.values c.before.loop.i c.before.before.at.result ∙ c.before.loop.invariant
+loop-again : tie.Need-loop-i-preserved invariant-loop decreases-loop
+loop-again c = length-set c.before.loop-i.values c.before.loop-i.i c.before.before.at-x.result ∙ c.before.loop-i.invariant
 
-same_length : tie.Need-same-length invariant-loop decreases-loop
-same_length c = c.before.loop.invariant
+same_length : tie.Need-shape_of-values invariant-loop decreases-loop
+same_length c = c.before.loop-i.invariant
 
 pub fill_spec : {M : Type 1} → statement M
 fill_spec =
