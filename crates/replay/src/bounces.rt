@@ -7,7 +7,9 @@ use path::{bsdf, plain};
 use std::fs::File;
 
 fn same_result(file: &mut File, r: BounceResult) -> bool {
-    let start = same_number(file, r.number) & same_number(file, r.outcome) & words::same_vec3(file, r.wi);
+    let start = same_number(file, r.number)
+        & same_number(file, r.outcome)
+        & words::same_vec3(file, r.wi);
     let density = same_number(file, r.density.finite) & same_float(file, r.density.value);
     let shares = same_number(file, r.shares.given)
         & same_float(file, r.shares.reflected)

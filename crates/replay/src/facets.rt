@@ -31,7 +31,9 @@ fn same_refracted(file: &mut File, answer: Refracted) -> bool {
 
 // 1 for a direction, 2 for none, 3 for total reflection; whether it is a reflection; the direction.
 fn same_scattered(file: &mut File, outcome: u64, reflection: bool, wi: Vec3) -> bool {
-    words::same_number(file, outcome) & words::same_bool(file, reflection) & words::same_vec3(file, wi)
+    words::same_number(file, outcome)
+        & words::same_bool(file, reflection)
+        & words::same_vec3(file, wi)
 }
 
 fn same_sampled(file: &mut File, answer: Sampled) -> bool {

@@ -77,7 +77,14 @@ fn next(n: u64) -> u64 {
 }
 
 // Whether the libraries' answer is the record's. A spectrum of numbers is in the place of eta.
-fn same(file: &mut File, number: u64, w: &[f64; 30], eta: &[f64], k: &[f64], outer: &[f64]) -> bool {
+fn same(
+    file: &mut File,
+    number: u64,
+    w: &[f64; 30],
+    eta: &[f64],
+    k: &[f64],
+    outer: &[f64],
+) -> bool {
     if number == 990 {
         return bounces::replay(file, w, eta, k, outer);
     }
@@ -239,6 +246,7 @@ fn replay(
     Ok(())
 }
 
+// A file that can't be opened is named on standard error, and the others are replayed all the same.
 fn replay_file(rt: &HostRuntime, name: &str) -> io::Result<()> {
     let mut file = match File::open(rt, name) {
         Ok(file) => file,

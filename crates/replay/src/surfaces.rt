@@ -24,7 +24,9 @@ fn is_glass(kind: Kind) -> bool {
 
 // Document 01's number, whether the surface is glass, and its roughness.
 fn same_made(file: &mut File, number: u64, glass: bool, roughness: Vec2) -> bool {
-    words::same_number(file, number) & words::same_bool(file, glass) & words::same_vec2(file, roughness)
+    words::same_number(file, number)
+        & words::same_bool(file, glass)
+        & words::same_vec2(file, roughness)
 }
 
 fn same_surface_answer(file: &mut File, answer: SurfaceAnswer) -> bool {
@@ -38,7 +40,14 @@ fn same_surface_answer(file: &mut File, answer: SurfaceAnswer) -> bool {
 }
 
 // Whether the answer of the function `number` is the record's.
-pub fn replay(file: &mut File, number: u64, w: &[f64; 30], eta: &[f64], k: &[f64], outer: &[f64]) -> bool {
+pub fn replay(
+    file: &mut File,
+    number: u64,
+    w: &[f64; 30],
+    eta: &[f64],
+    k: &[f64],
+    outer: &[f64],
+) -> bool {
     let s = words::surface(w);
     let v = words::vec3(w, 3);
     let u = words::vec3(w, 6);
@@ -49,7 +58,10 @@ pub fn replay(file: &mut File, number: u64, w: &[f64; 30], eta: &[f64], k: &[f64
         954 => same_float_answer(file, counter::g1(s, eta, k, outer, v, u)),
         955 => same_float_answer(file, counter::g(s, eta, k, outer, v, u, words::vec3(w, 9))),
         956 => same_float_answer(file, counter::d(s, eta, k, outer, v)),
-        957 => same_float_answer(file, counter::disney_diffuse(s, eta, k, outer, v.x, v.y, v.z)),
+        957 => same_float_answer(
+            file,
+            counter::disney_diffuse(s, eta, k, outer, v.x, v.y, v.z),
+        ),
         _ => other_calls(file, number, s, w, eta, k, outer),
     }
 }
@@ -76,14 +88,24 @@ fn other_calls(
         }
         961 => {
             let reflection = words::is_true(w[9]);
-            same_float_answer(file, counter::pdf(s, eta, k, outer, v, u, reflection, w[10]))
+            same_float_answer(
+                file,
+                counter::pdf(s, eta, k, outer, v, u, reflection, w[10]),
+            )
         }
         _ => apart(file, number, w, eta, k, outer),
     }
 }
 
 // What is not a call on a whole surface: its spectra, the surface that is made, a mirror and a bend.
-fn apart(file: &mut File, number: u64, w: &[f64; 30], eta: &[f64], k: &[f64], outer: &[f64]) -> bool {
+fn apart(
+    file: &mut File,
+    number: u64,
+    w: &[f64; 30],
+    eta: &[f64],
+    k: &[f64],
+    outer: &[f64],
+) -> bool {
     let v = words::vec3(w, 3);
     let u = words::vec3(w, 6);
     match number {

@@ -9,8 +9,8 @@ use optics::color::Color;
 use optics::microfacet::{Kind, Surface};
 use rulvimba::records;
 use rulvimba::records::DirectionResult;
-use text::patterns;
 use std::fs::File;
+use text::patterns;
 
 // ---- in
 pub fn is_true(x: f64) -> bool {
@@ -99,7 +99,10 @@ pub fn same_basis(file: &mut File, b: Onb) -> bool {
 }
 
 pub fn same_color(file: &mut File, a: Color) -> bool {
-    same_float(file, a.s0) & same_float(file, a.s1) & same_float(file, a.s2) & same_float(file, a.s3)
+    same_float(file, a.s0)
+        & same_float(file, a.s1)
+        & same_float(file, a.s2)
+        & same_float(file, a.s3)
 }
 
 // ---- answers that may be a refusal: document 01's number, 0 where a value is given, and the value

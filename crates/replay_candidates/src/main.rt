@@ -173,6 +173,7 @@ fn replay(
     Ok(t)
 }
 
+// A file that can't be opened is named on standard error, which is no failure of the program.
 fn replay_file(rt: &HostRuntime, name: &str) -> io::Result<()> {
     let mut file = match File::open(rt, name) {
         Ok(file) => file,

@@ -52,8 +52,8 @@ fn density_of(t: &[u8]) -> f64 {
     patterns::of_bits(read.bits)
 }
 
-// Reads bytes as many as there is room for, and whether the file had them. A read that fails counts as the
-// file's end: what is missing then is counted as a difference, or as a record that isn't there.
+// Fills the bytes from the file; whether it had as many. A read that fails counts as the file's end: what is
+// missing then differs from what it is held to, or is a record that isn't there.
 fn fill(file: &mut File, bytes: &mut [u8]) -> bool {
     file.read_exact(bytes).is_ok()
 }
