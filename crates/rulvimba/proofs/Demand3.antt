@@ -31,14 +31,13 @@ use Rattle.path.specs.Path.{path, ones, start}
 use Rattle.path.specs.Bounce.{check_bounce, lambda_on, scatter, advanced}
 use Rattle.path.specs.Answer.{Outcome, outcome, branch_of, worked, on_surface, answered, bounce, path_of}
 use Rattle.path.specs.Plain.{density_record, shares_record, bounce_result}
-use Rattle.path.specs.Many.{path_in}
 use Rattle.path.specs.Demand3 as Path
 use Rattle.path.specs.Demand3.{ColorF64, SharesHold, DensityHolds, AnswerHolds, Run, end, bounced, Throughout, Answered}
 use Rattle.path.proofs.Demand3.{demand_3}
 use Rattle.path.proofs.Answers.{answers}
 use Rattle.rulvimba.specs.declared.surfaces.SurfaceRecord.{SurfaceRecord}
 use Rattle.rulvimba.specs.Surfaces.{surface_of, surface_with}
-use Rattle.rulvimba.specs.Paths.{numbers_of, start_number, path_started, path_after}
+use Rattle.rulvimba.specs.Paths.{path_in, numbers_of, start_number, path_started, path_after}
 use Rattle.rulvimba.specs.Demand3.{Laid, Call, step_of, Calls, done, called, AfterEach, Demand3}
 use Rattle.rulvimba.proofs.UnknownKind.{unknown-checked}
 

@@ -6,7 +6,7 @@ use Rattle.optics.specs.declared.color.Color.{Color}
 use Rattle.path.specs.Path.{start}
 use Rattle.path.specs.Answer.{Outcome, refusal, lost, reflected, passed, bounce}
 use Rattle.path.specs.Plain.{bounce_result}
-use Rattle.path.specs.Many.{path_in}
+unfoldable pub use Rattle.path.specs.Many.{path_in}
 use Rattle.path.specs.declared.{records.Path.Path, records.Bounce.Bounce, plain.BounceResult.BounceResult}
 use Rattle.rulvimba.specs.Surfaces.{SurfaceRecord, surface_with}
 

@@ -1,8 +1,7 @@
 // A path in the caller's memory: eight doubles, four wavelengths and then four powers.
 ghost use Rattle.std.specs.Prelude.{◌≡◌};
 ghost use Rattle.path.specs.Answer.{outcome};
-ghost use Rattle.path.specs.Many.{path_in};
-ghost use Rattle.rulvimba.specs.Paths.{numbers_of, path_after, StartCall, BounceCall};
+ghost use Rattle.rulvimba.specs.Paths.{path_in, numbers_of, path_after, StartCall, BounceCall};
 
 use crate::surfaces;
 use crate::surfaces::SurfaceRecord;

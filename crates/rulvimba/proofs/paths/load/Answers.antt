@@ -1,7 +1,7 @@
 -- `rulvimba::paths::load` meets its contract: the eight numbers in their places.
 use mathlib.Core.Path.{refl}
 use borrow.Author.Rules.{rules}
-use Rattle.path.specs.Many.{path_in}
+use Rattle.rulvimba.specs.Paths.{path_in}
 use Rattle.rulvimba.proofs.paths.load.Goals as goal
 
 pub returns : goal.returns
