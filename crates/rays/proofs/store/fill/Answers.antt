@@ -1,0 +1,16 @@
+-- `fill` is safe and ends: the index stays below the number of entries, which a store leaves as it is.
+use mathlib.Core.Path.{◌≡◌, refl, ◌∙◌}
+use Prim.Native.Nat.{◌-◌}
+use lib.ListN.{length, length-set}
+use native.Mathlib.Omega.{arith}
+use borrow.Author.Rules.{rules}
+use Rattle.rays.proofs.store.fill.Goals as goal
+
+pub loop-i-smaller : goal.loop-i-smaller
+loop-i-smaller c = omega (arith, c.loop-i.invariant)
+
+pub loop-i-preserved : goal.loop-i-preserved
+loop-i-preserved c = length-set c.loop-i.values c.loop-i.i c.at-x.result ∙ c.loop-i.invariant
+
+pub shape_of-values : goal.shape_of-values
+shape_of-values c = c.loop-i.invariant
