@@ -1,5 +1,4 @@
 -- `counter::chi_pass` meets its contract: refused as the checks say, or the value.
-use borrow.Author.Rules.{rules}
 use Rattle.numbers.specs.Refusal.{verdict, ◌▷◌}
 use Rattle.numbers.specs.Checked.{bool_answer}
 use Rattle.counter.specs.Counter.{chi_pass}

@@ -1,5 +1,4 @@
 -- `counter::f` meets its contract: refused as the checks say, or the value.
-use borrow.Author.Rules.{rules}
 use Rattle.numbers.specs.Refusal.{verdict, ◌▷◌}
 use Rattle.counter.specs.Counter.{f, color_answer}
 use Rattle.counter.proofs.f.Goals as goal

@@ -1,5 +1,4 @@
 -- `counter::f_at` meets its contract: refused as the checks say, or the value.
-use borrow.Author.Rules.{rules}
 use Rattle.numbers.specs.Refusal.{verdict, ◌▷◌}
 use Rattle.numbers.specs.Checked.{float_answer}
 use Rattle.optics.specs.Surface.{index_at}

@@ -1,5 +1,4 @@
 -- `counter::finite_only` meets its contract: refused as the check says, or the value.
-use borrow.Author.Rules.{rules}
 use Rattle.numbers.specs.Refusal.{number, verdict, ◌▷◌}
 use Rattle.numbers.specs.Checked.{float_answer}
 use Rattle.counter.specs.Counter.{finite_only}

@@ -1,5 +1,4 @@
 -- `counter::make_surface` meets its contract: refused as the checks say, or the value.
-use borrow.Author.Rules.{rules}
 use lib.Ieee.{of_bits}
 use Rattle.floats.specs.Float.{decimal}
 use Rattle.numbers.specs.Refusal.{number, verdict, ◌▷◌}

@@ -1,5 +1,4 @@
 -- `counter::reflect` meets its contract: refused as the checks say, or the value.
-use borrow.Author.Rules.{rules}
 use Rattle.numbers.specs.Refusal.{verdict, ◌▷◌}
 use Rattle.optics.specs.Bxdf.{reflected}
 use Rattle.counter.specs.Counter.{reflect, reflect_answer}

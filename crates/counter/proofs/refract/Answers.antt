@@ -1,5 +1,4 @@
 -- `counter::refract` meets its contract: refused as the checks say, or the value.
-use borrow.Author.Rules.{rules}
 use Rattle.numbers.specs.Refusal.{verdict, ◌▷◌}
 use Rattle.optics.specs.Bxdf.{refracted}
 use Rattle.counter.specs.Counter.{refract, refract_answer}

@@ -1,5 +1,4 @@
 -- `counter::sample_normal` meets its contract: refused as the checks say, or the value.
-use borrow.Author.Rules.{rules}
 use Rattle.numbers.specs.Refusal.{verdict, ◌▷◌}
 use Rattle.numbers.specs.Checked.{vec3_answer}
 use Rattle.counter.specs.Counter.{sample_normal}

@@ -13,7 +13,7 @@ use lib.Ieee.Fits.{eq→eqb}
 use mathlib.Core.Bool.{Bool, true, false, not, cond}
 use lib.Dec.{T, leb, eqb, leb→le, nleb→lt, eqb→eq, lit≤, lit<}
 use lib.Pow.{pow-add, pow_pos}
-use lib.Ieee.{Float, binary64, low, size, round}
+use lib.Ieee.{Float, binary64, size, round}
 use lib.Ieee.Digits.{size-le}
 use lib.Ieee.Nearest.{closest}
 use lib.Ieee.Order.{drop}

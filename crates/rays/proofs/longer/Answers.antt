@@ -1,6 +1,5 @@
 -- `longer` is safe: the second test keeps the sum within the buffer's length.
 use native.Mathlib.Omega.{arith}
-use borrow.Author.Rules.{rules}
 use borrow.Author.Tests.{leb-true}
 use Rattle.rays.proofs.longer.Goals as goal
 

@@ -1,5 +1,4 @@
 -- `candidates::candidate::is_density` meets its contract: by what `is_finite` gives.
-use borrow.Author.Rules.{rules}
 use lib.Ieee.{of_bits}
 use Rattle.candidates.specs.Candidate.{is_density}
 use Rattle.candidates.proofs.candidate.is_density.Goals as goal

@@ -1,9 +1,6 @@
 -- `candidates::columns::put_number` meets its contract: the loop writes the entries from `at` on, each a place later (`Putting`).
-use Prim.Native.Nat.{suc, ◌-◌}
 use native.Mathlib.Omega.{arith}
-use borrow.Author.Rules.{rules}
-use lib.Ieee.{nan}
-use Rattle.candidates.proofs.Lists.{Putting, putting-starts, putting-next, putting-ends}
+use Rattle.candidates.proofs.Lists.{putting-starts, putting-next, putting-ends}
 use Rattle.candidates.proofs.columns.put_number.Goals as goal
 
 pub loop-i-init : goal.loop-i-init

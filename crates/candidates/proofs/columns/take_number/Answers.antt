@@ -1,9 +1,6 @@
 -- `candidates::columns::take_number` meets its contract: the loop writes the entries behind `at`, each a place earlier (`Taking`).
-use Prim.Native.Nat.{◌-◌}
 use native.Mathlib.Omega.{arith}
-use borrow.Author.Rules.{rules}
-use lib.Ieee.{nan}
-use Rattle.candidates.proofs.Lists.{Taking, taking-starts, taking-next, taking-ends}
+use Rattle.candidates.proofs.Lists.{taking-starts, taking-next, taking-ends}
 use Rattle.candidates.proofs.columns.take_number.Goals as goal
 
 pub loop-i-init : goal.loop-i-init

@@ -1,9 +1,7 @@
 -- `candidates::columns::take_number` meets its contract: the loop writes the entries behind `at`, each a place earlier (`Taking`).
 use Prim.Native.Nat.{◌-◌}
-use native.Mathlib.Omega.{arith}
-use borrow.Author.Rules.{rules}
 use lib.Ieee.{nan}
-use Rattle.candidates.proofs.Lists.{Taking, taking-starts, taking-next, taking-ends}
+use Rattle.candidates.proofs.Lists.{Taking}
 use Rattle.candidates.proofs.columns.take_number.Given as goal
 
 abbrev pub invariant-loop-i : goal.invariant-loop-i

@@ -1,7 +1,6 @@
 -- `candidates::list::check_arrival` meets its contract: the definition, check by check; the first n are n.
 use native.Mathlib.Omega.{arith}
 use mathlib.Core.Path.{◌≡◌}
-use borrow.Author.Rules.{rules}
 use lib.ListN.{length, take, length-take}
 use Rattle.numbers.specs.Refusal.{number}
 use Rattle.candidates.specs.Memory.{check}

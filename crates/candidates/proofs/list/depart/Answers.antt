@@ -1,7 +1,6 @@
 -- `candidates::list::depart` meets its contract: what its stages give is the definition's (`departs`, `departure-leaves`, `refused_leaves`).
 use native.Mathlib.Omega.{arith}
 use mathlib.Core.Path.{◌≡◌, sym, ◌∙◌}
-use borrow.Author.Rules.{rules}
 use lib.ListN.{length}
 use Rattle.numbers.specs.Refusal.{verdict, number}
 use Rattle.candidates.specs.Memory.{memory, departure, listed_ids, answer}

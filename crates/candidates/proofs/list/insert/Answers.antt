@@ -1,7 +1,6 @@
 -- `candidates::list::insert` meets its contract: what stands in each column then (`insert-columns`).
 use native.Mathlib.Omega.{arith}
 use mathlib.Core.Path.{◌∙◌}
-use borrow.Author.Rules.{rules}
 use Rattle.candidates.specs.Candidate.{goes_before}
 use Rattle.candidates.specs.Memory.{rows}
 use Rattle.candidates.proofs.Lists.{first-within}

@@ -1,9 +1,7 @@
 -- `candidates::list::is_among` meets its contract: what was found of the ids before i decides together with the rest (`Comparing`).
-use Prim.Native.Nat.{◌-◌}
 use native.Mathlib.Omega.{arith}
-use borrow.Author.Rules.{rules}
 use Rattle.candidates.specs.Candidate.{is_id}
-use Rattle.candidates.proofs.Ids.{Comparing, comparing-starts, comparing-next, comparing-ends}
+use Rattle.candidates.proofs.Ids.{comparing-starts, comparing-next, comparing-ends}
 use Rattle.candidates.proofs.list.is_among.Goals as goal
 
 pub loop-i-init : goal.loop-i-init

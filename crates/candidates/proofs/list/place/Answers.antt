@@ -1,12 +1,8 @@
 -- `candidates::list::place` meets its contract: the arrival goes before none of the candidates passed (`Searching`), which `row_at` reads from the columns.
-use Prim.Native.Nat.{◌-◌}
 use native.Mathlib.Omega.{arith}
-use mathlib.Core.Path.{◌≡◌, sym, ap, ◌∙◌}
-use borrow.Author.Rules.{rules}
-use lib.ListN.{length}
+use mathlib.Core.Path.{sym, ap, ◌∙◌}
 use Rattle.candidates.specs.Candidate.{goes_before}
-use Rattle.candidates.specs.Memory.{rows}
-use Rattle.candidates.proofs.Lists.{Searching, searching-starts, searching-next, searching-found, searching-ends}
+use Rattle.candidates.proofs.Lists.{searching-starts, searching-next, searching-found, searching-ends}
 use Rattle.candidates.proofs.Rows.{row_at, length-rows}
 use Rattle.candidates.proofs.list.place.Goals as goal
 

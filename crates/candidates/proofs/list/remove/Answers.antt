@@ -1,6 +1,5 @@
 -- `candidates::list::remove` meets its contract: what stands in each column then (`remove-columns`).
 use mathlib.Core.Path.{◌∙◌}
-use borrow.Author.Rules.{rules}
 use Rattle.candidates.proofs.Calls.{remove-columns}
 use Rattle.candidates.proofs.list.remove.Goals as goal
 

@@ -1,5 +1,4 @@
 -- `optics_conductor_sample` meets its contract: the answer's layout, and the answer.
-use borrow.Author.Rules.{rules}
 use Rattle.compare_path.proofs.bxdf.optics_conductor_sample.Goals as goal
 
 pub returns : goal.returns

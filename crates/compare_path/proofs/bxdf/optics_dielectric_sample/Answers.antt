@@ -1,5 +1,4 @@
 -- `optics_dielectric_sample` meets its contract: the answer's layout, and the answer.
-use borrow.Author.Rules.{rules}
 use Rattle.compare_path.proofs.bxdf.optics_dielectric_sample.Goals as goal
 
 pub returns : goal.returns

@@ -1,5 +1,4 @@
 -- `optics_pdf` meets its contract: the density, on the surface of the record.
-use borrow.Author.Rules.{rules}
 use Rattle.compare_path.proofs.bxdf.optics_pdf.Goals as goal
 
 pub returns : goal.returns

@@ -1,5 +1,4 @@
 -- `numbers_checked_tan2_theta` meets its contract: the answer's layout, and the answer.
-use borrow.Author.Rules.{rules}
 use Rattle.compare_path.proofs.checked.numbers_checked_tan2_theta.Goals as goal
 
 pub returns : goal.returns

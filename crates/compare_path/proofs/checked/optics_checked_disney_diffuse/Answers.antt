@@ -1,5 +1,4 @@
 -- `optics_checked_disney_diffuse` meets its contract: the answer's layout, the answer and its surface.
-use borrow.Author.Rules.{rules}
 use Rattle.compare_path.proofs.checked.optics_checked_disney_diffuse.Goals as goal
 
 pub returns : goal.returns

@@ -1,6 +1,5 @@
 -- `optics_constant_eta` meets its contract: it is a field of what is known on glass.
 use mathlib.Core.Path.{ap}
-use borrow.Author.Rules.{rules}
 use Rattle.optics.specs.Known.{known_on_glass}
 use Rattle.compare_path.proofs.microfacet.optics_constant_eta.Goals as goal
 

@@ -1,5 +1,4 @@
 -- `optics_f` meets its contract: the Fresnel terms, on the kind of the code.
-use borrow.Author.Rules.{rules}
 use Rattle.compare_path.proofs.microfacet.optics_f.Goals as goal
 
 pub returns : goal.returns

@@ -1,5 +1,4 @@
 -- `optics_index_on` meets its contract: the first of the constants, on the kind of the code.
-use borrow.Author.Rules.{rules}
 use Rattle.compare_path.proofs.microfacet.optics_index_on.Goals as goal
 
 pub returns : goal.returns

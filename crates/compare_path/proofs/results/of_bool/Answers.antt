@@ -1,7 +1,6 @@
 -- `of_bool` meets its contract: each case is laid out as the definition has it.
 use Rattle.compare_path.specs.Results.{bool_result}
 use Rattle.numbers.specs.Checked.{bool_answer}
-use borrow.Author.Rules.{rules}
 use lib.Ieee.{of_bits}
 use Rattle.compare_path.proofs.results.of_bool.Goals as goal
 

@@ -1,5 +1,4 @@
 -- `of_onb` meets its contract: each case of the answer is laid out as the definition has it.
-use borrow.Author.Rules.{rules}
 use lib.Ieee.{of_bits}
 use Rattle.numbers.specs.Checked.{onb_answer}
 use Rattle.compare_path.specs.Results.{onb_result}

@@ -1,7 +1,6 @@
 -- `of_reflected` meets its contract: each case is laid out as the one of the same name that may be refused.
 use Rattle.optics.specs.Bxdf.{reflected}
 use Rattle.counter.specs.Counter.{reflect_answer}
-use borrow.Author.Rules.{rules}
 use Rattle.compare_path.proofs.results.of_reflected.Goals as goal
 
 pub returns-in-Direction : goal.returns-in-Direction

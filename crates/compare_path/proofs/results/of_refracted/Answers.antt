@@ -1,7 +1,6 @@
 -- `of_refracted` meets its contract: each case is laid out as the one of the same name that may be refused.
 use Rattle.optics.specs.Bxdf.{refracted}
 use Rattle.counter.specs.Counter.{refract_answer}
-use borrow.Author.Rules.{rules}
 use Rattle.compare_path.proofs.results.of_refracted.Goals as goal
 
 pub returns-in-Direction : goal.returns-in-Direction

@@ -1,7 +1,6 @@
 -- `of_sampled` meets its contract: each case is laid out as the definition has it.
 use Rattle.compare_path.specs.Results.{scattered_result}
 use Rattle.optics.specs.Bxdf.{sampled}
-use borrow.Author.Rules.{rules}
 use lib.Ieee.{of_bits}
 use Rattle.compare_path.proofs.results.of_sampled.Goals as goal
 

@@ -1,6 +1,5 @@
 -- `floats::float::is_infinite` meets its contract: of the absolute value, by cases of the value.
 use lib.Ieee.{of_bits}
-use borrow.Author.Rules.{rules}
 use Rattle.floats.proofs.square_root.RootBits.{inf_not_nan}
 use Rattle.floats.proofs.float.FloatBits.{infinite-test}
 use Rattle.floats.proofs.float.is_infinite.Goals as goal

@@ -1,7 +1,6 @@
 -- `digit` meets its contract, by `bit-digit` of RootDigits, and no sum or product in it wraps.
 use Prim.Native.Nat.{◌+◌, ◌*◌, ◌≤◌}
 use native.Mathlib.Omega.{arith}
-use borrow.Author.Rules.{rules}
 use Rattle.floats.proofs.square_root.RootDigits.{bit-small, bit-digit}
 use Rattle.floats.proofs.square_root.digit.Goals as goal
 

@@ -1,6 +1,6 @@
 -- `digits` meets its contract: each turn of the loop is a digit of `after`, with what it needs and gives by RootDigits.
 use mathlib.Core.Path.{◌≡◌, refl, ap, ◌∙◌}
-use Prim.Native.Nat.{◌-◌, ◌*◌, ◌^◌, ◌≤◌}
+use Prim.Native.Nat.{◌*◌, ◌^◌}
 use native.Mathlib.Omega.{arith}
 use Rattle.floats.specs.RootDigits.{after}
 use Rattle.floats.proofs.square_root.RootDigits.{ready, turn}

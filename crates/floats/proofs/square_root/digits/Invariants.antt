@@ -1,9 +1,7 @@
 -- `digits` meets its contract: each turn of the loop is a digit of `after`, with what it needs and gives by RootDigits.
-use mathlib.Core.Path.{◌≡◌, refl, ap, ◌∙◌}
+use mathlib.Core.Path.{◌≡◌}
 use Prim.Native.Nat.{◌-◌, ◌*◌, ◌^◌, ◌≤◌}
-use native.Mathlib.Omega.{arith}
 use Rattle.floats.specs.RootDigits.{after}
-use Rattle.floats.proofs.square_root.RootDigits.{ready, turn}
 use Rattle.floats.proofs.square_root.digits.Given as goal
 
 abbrev pub invariant-loop-i : goal.invariant-loop-i

@@ -1,5 +1,4 @@
 -- `guess` is safe: the patterns that it makes are no NaN's. Its result is a double, being a sum's, of any value.
-use borrow.Author.Rules.{rules}
 use native.Mathlib.Omega.{arith}
 use Prim.Native.Nat.{◌+◌, ◌-◌, ◌*◌, ◌/◌, ◌^◌}
 use lib.Ieee.{binary64, to_bits}

@@ -1,6 +1,5 @@
 -- `is_nearest` meets its contract, by `nearest_by-parts` of RootGuess, and no product or sum in it wraps.
 use mathlib.Core.Path.{refl}
-use borrow.Author.Rules.{rules}
 use native.Mathlib.Omega.{arith}
 use lib.Dec.{leb→le}
 use Prim.Native.Nat.{◌+◌, ◌-◌, ◌*◌, ◌/◌, ◌^◌, ◌%◌}

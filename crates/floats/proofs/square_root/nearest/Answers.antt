@@ -1,6 +1,5 @@
 -- `nearest` meets its contract, by `last_digit` of RootDigits.
 use native.Mathlib.Omega.{arith}
-use borrow.Author.Rules.{rules}
 use Rattle.floats.proofs.square_root.RootDigits.{last_digit}
 use Rattle.floats.proofs.square_root.nearest.Goals as goal
 

@@ -1,8 +1,5 @@
 -- `placed` meets its contract, by `placed_at` of RootOperand.
 use native.Mathlib.Omega.{arith}
-use borrow.Author.Rules.{rules}
-use Prim.Native.Nat.{◌+◌, ◌*◌, ◌/◌, ◌%◌}
-use Rattle.floats.specs.RootSteps.{Placed}
 use Rattle.floats.proofs.square_root.RootOperand.{placed_at}
 use Rattle.floats.proofs.square_root.placed.Goals as goal
 

@@ -1,7 +1,6 @@
 -- `root_of` meets its contract, by `nearest-pattern` of RootBits.
 use Prim.Native.Nat.{◌+◌, ◌-◌, ◌*◌, ◌^◌, ◌<◌}
 use native.Mathlib.Omega.{arith}
-use borrow.Author.Rules.{rules}
 use Rattle.floats.proofs.square_root.RootBits.{within, clean, nearest-pattern}
 use Rattle.floats.proofs.square_root.RootOperand.{root-scaled}
 use Rattle.floats.proofs.square_root.root_of.Goals as goal

@@ -1,5 +1,4 @@
 -- `sqrt` meets its contract: by `is_root` where the guess is right and by `root_of` where it is not, both of the one operand, and by `by_digits` elsewhere.
-use borrow.Author.Rules.{rules}
 use denote.Floats.{passes}
 use Rattle.floats.proofs.square_root.sqrt.Goals as goal
 

@@ -1,6 +1,5 @@
 -- `sqrt_or_zero` meets its contract, by the three laws of RootOrZero.
 use mathlib.Core.Path.{sym, ap, ◌∙◌, subst}
-use borrow.Author.Rules.{rules}
 use lib.Dec.{T}
 use lib.Ieee.{Float, binary64, of_bits, lt, eq}
 use Rattle.floats.specs.Float.{f0}

@@ -1,6 +1,5 @@
 -- `two_bits` meets its contract, by `two_high` and `two_low` of RootDigits.
 use native.Mathlib.Omega.{arith}
-use borrow.Author.Rules.{rules}
 use Rattle.floats.proofs.square_root.RootDigits.{two_high, two_low}
 use Rattle.floats.proofs.square_root.two_bits.Goals as goal
 

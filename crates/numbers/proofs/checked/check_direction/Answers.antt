@@ -1,5 +1,4 @@
 -- `numbers::checked::check_direction` meets its contract: by the test, in the order of the definition.
-use Rattle.std.proofs.Common.{rules}
 use Rattle.numbers.specs.Refusal.{number}
 use Rattle.numbers.specs.Checked.{check_direction}
 use Rattle.numbers.proofs.checked.check_direction.Goals as goal

@@ -1,5 +1,4 @@
 -- `numbers::checked::check_table` meets its contract: refused unless the table holds.
-use Rattle.std.proofs.Common.{rules}
 use Rattle.numbers.specs.Refusal.{number}
 use Rattle.numbers.specs.Checked.{check_table}
 use Rattle.numbers.proofs.checked.check_table.Goals as goal

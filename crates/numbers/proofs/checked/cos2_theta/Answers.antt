@@ -1,5 +1,4 @@
 -- `numbers::checked::cos2_theta` meets its contract: refused as the check says, or the value.
-use Rattle.std.proofs.Common.{rules}
 use Rattle.numbers.specs.Refusal.{verdict, ◌▷◌}
 use Rattle.numbers.specs.Checked.{of_direction, float_answer}
 use Rattle.numbers.proofs.checked.cos2_theta.Goals as goal

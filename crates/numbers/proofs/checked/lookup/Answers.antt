@@ -1,5 +1,4 @@
 -- `numbers::checked::lookup` meets its contract: refused as the checks say, or the value.
-use Rattle.std.proofs.Common.{rules}
 use Rattle.numbers.specs.Refusal.{verdict, ◌▷◌}
 use Rattle.numbers.specs.Checked.{lookup, float_answer}
 use Rattle.numbers.proofs.checked.lookup.Goals as goal

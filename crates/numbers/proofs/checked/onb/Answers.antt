@@ -1,5 +1,4 @@
 -- `numbers::checked::onb` meets its contract: refused as the check says, or the value.
-use Rattle.std.proofs.Common.{rules}
 use Rattle.numbers.specs.Refusal.{verdict, ◌▷◌}
 use Rattle.numbers.specs.Checked.{of_direction, onb_answer}
 use Rattle.numbers.proofs.checked.onb.Goals as goal

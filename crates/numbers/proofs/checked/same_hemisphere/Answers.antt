@@ -1,5 +1,4 @@
 -- `numbers::checked::same_hemisphere` meets its contract: refused as the checks say, or the value.
-use Rattle.std.proofs.Common.{rules}
 use Rattle.numbers.specs.Refusal.{verdict, ◌▷◌}
 use Rattle.numbers.specs.Checked.{hemisphere, of_directions, bool_answer}
 use Rattle.numbers.proofs.checked.same_hemisphere.Goals as goal

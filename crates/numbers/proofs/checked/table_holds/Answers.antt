@@ -1,5 +1,4 @@
 -- `numbers::checked::table_holds` meets its contract: by the test of the length, then the entries.
-use Rattle.std.proofs.Common.{rules}
 use Rattle.numbers.specs.Checked.{table_holds}
 use Rattle.numbers.proofs.checked.table_holds.Goals as goal
 

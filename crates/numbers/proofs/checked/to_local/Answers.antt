@@ -1,5 +1,4 @@
 -- `numbers::checked::to_local` meets its contract: refused as the checks say, or the value.
-use Rattle.std.proofs.Common.{rules}
 use Rattle.numbers.specs.Refusal.{verdict, ◌▷◌}
 use Rattle.numbers.specs.Checked.{change_to_local, of_directions, vec3_answer}
 use Rattle.numbers.proofs.checked.to_local.Goals as goal

@@ -1,7 +1,7 @@
 -- `numbers::dense_spectrum::all_equal` meets its contract: what was found of the entries before i decides together with the rest. The measure is what is left of the list.
-use Rattle.std.proofs.Common.{◌-◌, length, sym, arith, rules}
-use lib.Ieee.{nan, eq}
-use Rattle.numbers.proofs.dense_spectrum.Every.{Rest, rest-start, rest-next, rest-ends}
+use Rattle.std.proofs.Common.{sym, arith}
+use lib.Ieee.{nan}
+use Rattle.numbers.proofs.dense_spectrum.Every.{rest-start, rest-next, rest-ends}
 use Rattle.numbers.proofs.dense_spectrum.all_equal.Goals as goal
 
 pub loop-i-init : goal.loop-i-init

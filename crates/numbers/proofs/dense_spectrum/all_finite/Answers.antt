@@ -1,9 +1,8 @@
 -- `numbers::dense_spectrum::all_finite` meets its contract: what was found of the entries before i decides together with the rest. The measure is what is left of the list.
-use Rattle.std.proofs.Common.{◌-◌, length, sym, arith, rules}
+use Rattle.std.proofs.Common.{sym, arith}
 use lib.Ieee.{nan}
 use Rattle.numbers.specs.DenseSpectrum.{all_finite}
-use Rattle.floats.specs.Float.{is_finite}
-use Rattle.numbers.proofs.dense_spectrum.Every.{Rest, rest-start, rest-next, rest-ends}
+use Rattle.numbers.proofs.dense_spectrum.Every.{rest-start, rest-next, rest-ends}
 use Rattle.numbers.proofs.dense_spectrum.all_finite.Goals as goal
 
 pub loop-i-init : goal.loop-i-init

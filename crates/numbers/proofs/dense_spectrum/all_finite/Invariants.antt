@@ -1,9 +1,7 @@
 -- `numbers::dense_spectrum::all_finite` meets its contract: what was found of the entries before i decides together with the rest. The measure is what is left of the list.
-use Rattle.std.proofs.Common.{◌-◌, length, sym, arith, rules}
-use lib.Ieee.{nan}
-use Rattle.numbers.specs.DenseSpectrum.{all_finite}
+use Rattle.std.proofs.Common.{◌-◌, length}
 use Rattle.floats.specs.Float.{is_finite}
-use Rattle.numbers.proofs.dense_spectrum.Every.{Rest, rest-start, rest-next, rest-ends}
+use Rattle.numbers.proofs.dense_spectrum.Every.{Rest}
 use Rattle.numbers.proofs.dense_spectrum.all_finite.Given as goal
 
 abbrev pub invariant-loop-i : goal.invariant-loop-i

@@ -1,6 +1,5 @@
 -- `numbers::dense_spectrum::any_ceiling` meets its contract: the tests are what the cast asks of its argument, and one more than the whole part still fits.
 use lib.Ieee.{binary64, fits, neg, of_bits}
-use Rattle.std.proofs.Common.{rules}
 use Rattle.numbers.specs.DenseSpectrum.{ceiling}
 use Rattle.numbers.proofs.dense_spectrum.WholePart.{room}
 use denote.Floats.{passes}

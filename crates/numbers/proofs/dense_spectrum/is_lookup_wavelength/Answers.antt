@@ -1,6 +1,5 @@
 -- `numbers::dense_spectrum::is_lookup_wavelength` meets its contract: each answer is the definition's, by the tests on the way.
 use lib.Ieee.{of_bits}
-use Rattle.std.proofs.Common.{rules}
 use Rattle.numbers.specs.DenseSpectrum.{is_lookup_wavelength}
 use Rattle.numbers.proofs.dense_spectrum.is_lookup_wavelength.Goals as goal
 

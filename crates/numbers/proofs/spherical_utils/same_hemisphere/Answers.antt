@@ -1,6 +1,5 @@
 -- `numbers::spherical_utils::same_hemisphere` meets its contract: the calls give what their contracts promise, and the definition is read in the same order.
 use lib.Ieee.{of_bits}
-use Rattle.std.proofs.Common.{rules}
 use Rattle.numbers.specs.SphericalUtils.{same_hemisphere}
 use Rattle.numbers.proofs.spherical_utils.same_hemisphere.Goals as goal
 

@@ -1,6 +1,5 @@
 -- `numbers::spherical_utils::sin2_theta` meets its contract: the calls give what their contracts promise, and the definition is read in the same order.
 use lib.Ieee.{of_bits}
-use Rattle.std.proofs.Common.{rules}
 use Rattle.numbers.specs.SphericalUtils.{sin2_theta}
 use Rattle.numbers.proofs.spherical_utils.sin2_theta.Goals as goal
 

@@ -1,5 +1,4 @@
 -- `numbers::spherical_utils::sin_theta` meets its contract: the calls give what their contracts promise, and the definition is read in the same order.
-use Rattle.std.proofs.Common.{rules}
 use Rattle.numbers.specs.SphericalUtils.{sin_theta}
 use Rattle.numbers.proofs.spherical_utils.sin_theta.Goals as goal
 

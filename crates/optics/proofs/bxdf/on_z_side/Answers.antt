@@ -2,7 +2,6 @@
 use Rattle.numbers.specs.SphericalUtils.{cos_theta}
 use Rattle.optics.specs.Density.{on_zSide}
 use lib.Ieee.{of_bits}
-use borrow.Author.Rules.{rules}
 use Rattle.optics.proofs.bxdf.on_z_side.Goals as goal
 
 pub returns-then-wh : goal.returns-then-wh

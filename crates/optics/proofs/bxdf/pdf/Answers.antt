@@ -1,7 +1,6 @@
 -- `optics::bxdf::pdf` meets its contract: the calls give what their contracts promise, and the definition is read in the same order.
 use Rattle.optics.specs.Density.{pdf_of}
 use lib.Ieee.{of_bits}
-use borrow.Author.Rules.{rules}
 use Rattle.optics.proofs.bxdf.pdf.Goals as goal
 
 pub returns-then-reflection : goal.returns-then-reflection

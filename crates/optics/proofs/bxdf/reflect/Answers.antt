@@ -1,7 +1,6 @@
 -- `optics::bxdf::reflect` meets its contract: the calls give what their contracts promise, and the definition is read in the same order.
 use Rattle.optics.specs.Bxdf.{reflect, mirrored, reflected}
 use lib.Ieee.{of_bits}
-use borrow.Author.Rules.{rules}
 use Rattle.optics.proofs.bxdf.reflect.Goals as goal
 
 pub returns-then-same_hemisphere : goal.returns-then-same_hemisphere

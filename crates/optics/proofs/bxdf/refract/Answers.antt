@@ -1,5 +1,4 @@
 -- `optics::bxdf::refract` meets its contract: Snell's law handed on changes nothing, by `refract_from_lem`.
-use borrow.Author.Rules.{rules}
 use Rattle.optics.proofs.SharedTerms.{refract_from_lem}
 use Rattle.optics.proofs.bxdf.refract.Goals as goal
 

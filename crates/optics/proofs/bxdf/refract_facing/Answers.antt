@@ -3,7 +3,6 @@ use Rattle.optics.specs.Bxdf.{bent, across_only, refracted}
 use Rattle.optics.specs.Fresnel.{is_total}
 use Rattle.optics.specs.SharedTerms.{refract_facing_from}
 use lib.Ieee.{of_bits}
-use borrow.Author.Rules.{rules}
 use Rattle.optics.proofs.bxdf.refract_facing.Goals as goal
 
 pub returns-then-snell : goal.returns-then-snell

@@ -1,7 +1,6 @@
 -- `optics::bxdf::refract_from` meets its contract: the calls give what their contracts promise, and the definition is read in the same order.
 use Rattle.optics.specs.SharedTerms.{refract_from}
 use lib.Ieee.{of_bits}
-use borrow.Author.Rules.{rules}
 use Rattle.optics.proofs.bxdf.refract_from.Goals as goal
 
 pub returns-then-cos_to : goal.returns-then-cos_to

@@ -1,7 +1,6 @@
 -- `optics::check::all_zero` meets its contract: the calls give what their contracts promise, and the definition is read in the same order.
 use Rattle.optics.specs.Surface.{all_zero}
 use lib.Ieee.{of_bits}
-use borrow.Author.Rules.{rules}
 use Rattle.optics.proofs.check.all_zero.Goals as goal
 
 pub returns : goal.returns

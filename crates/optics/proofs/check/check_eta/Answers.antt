@@ -1,5 +1,4 @@
 -- `optics::check::check_eta` meets its contract: by the test, in the order of the definition.
-use borrow.Author.Rules.{rules}
 use Rattle.numbers.specs.Refusal.{number}
 use Rattle.optics.specs.Check.{check_eta}
 use Rattle.optics.proofs.check.check_eta.Goals as goal

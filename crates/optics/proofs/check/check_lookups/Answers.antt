@@ -1,5 +1,4 @@
 -- `optics::check::check_lookups` meets its contract: by the test, in the order of the definition.
-use borrow.Author.Rules.{rules}
 use Rattle.numbers.specs.Refusal.{number}
 use Rattle.optics.specs.Check.{check_lookups}
 use Rattle.optics.proofs.check.check_lookups.Goals as goal

@@ -1,5 +1,4 @@
 -- `optics::check::check_random` meets its contract: by the test, in the order of the definition.
-use borrow.Author.Rules.{rules}
 use lib.Ieee.{of_bits}
 use Rattle.numbers.specs.Refusal.{number}
 use Rattle.optics.specs.Check.{check_random, is_random}

@@ -1,5 +1,4 @@
 -- `optics::check::check_spectra` meets its contract: each check, in the order of the definition.
-use borrow.Author.Rules.{rules}
 use Rattle.numbers.specs.Refusal.{number}
 use Rattle.optics.specs.Check.{check_spectra}
 use Rattle.optics.proofs.check.check_spectra.Goals as goal

@@ -1,5 +1,4 @@
 -- `optics::check::eta_holds` meets its contract: by the test, in the order of the definition.
-use borrow.Author.Rules.{rules}
 use lib.Ieee.{of_bits}
 use Rattle.floats.specs.Float.{decimal}
 use Rattle.optics.specs.Surface.{eta_min, eta_holds}

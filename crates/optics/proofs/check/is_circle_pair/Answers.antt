@@ -1,5 +1,4 @@
 -- `optics::check::is_circle_pair` meets its contract: by the test, in the order of the definition.
-use borrow.Author.Rules.{rules}
 use lib.Ieee.{of_bits, neg}
 use Rattle.floats.specs.Float.{decimal}
 use Rattle.optics.specs.Check.{is_circle_pair}

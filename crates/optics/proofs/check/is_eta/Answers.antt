@@ -2,7 +2,6 @@
 use Rattle.floats.specs.Float.{decimal}
 use Rattle.optics.specs.Surface.{is_eta, eta_min}
 use lib.Ieee.{of_bits}
-use borrow.Author.Rules.{rules}
 use Rattle.optics.proofs.check.is_eta.Goals as goal
 
 pub returns : goal.returns

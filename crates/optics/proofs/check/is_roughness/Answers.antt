@@ -2,7 +2,6 @@
 use Rattle.floats.specs.Float.{decimal}
 use Rattle.optics.specs.Surface.{is_roughness, roughness_min}
 use lib.Ieee.{of_bits}
-use borrow.Author.Rules.{rules}
 use Rattle.optics.proofs.check.is_roughness.Goals as goal
 
 pub returns : goal.returns

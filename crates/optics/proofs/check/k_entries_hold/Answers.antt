@@ -4,7 +4,6 @@ use mathlib.Core.Bool.{or-true, or-false}
 use Rattle.floats.specs.Float.{decimal}
 use Rattle.optics.specs.Surface.{k_entries_hold, k_min}
 use lib.Ieee.{of_bits}
-use borrow.Author.Rules.{rules}
 use Rattle.optics.proofs.check.k_entries_hold.Goals as goal
 
 pub returns-then-all_within : goal.returns-then-all_within

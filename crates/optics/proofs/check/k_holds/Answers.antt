@@ -1,5 +1,4 @@
 -- `optics::check::k_holds` meets its contract: by the tests, in the order of the definition.
-use borrow.Author.Rules.{rules}
 use Rattle.optics.specs.Surface.{k_holds}
 use Rattle.optics.proofs.check.k_holds.Goals as goal
 

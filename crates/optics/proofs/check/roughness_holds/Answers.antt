@@ -1,5 +1,4 @@
 -- `optics::check::roughness_holds` meets its contract: by the test, in the order of the definition.
-use borrow.Author.Rules.{rules}
 use Rattle.optics.specs.Surface.{roughness_holds}
 use Rattle.optics.proofs.check.roughness_holds.Goals as goal
 

@@ -1,7 +1,6 @@
 -- `optics::microfacet::azimuth` meets its contract: the calls give what their contracts promise, and the definition is read in the same order.
 use Rattle.optics.specs.SharedTerms.{azimuth}
 use lib.Ieee.{of_bits, neg}
-use borrow.Author.Rules.{rules}
 use Rattle.optics.proofs.microfacet.azimuth.Goals as goal
 
 pub returns-then-sin : goal.returns-then-sin

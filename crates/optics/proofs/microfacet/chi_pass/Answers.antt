@@ -1,5 +1,4 @@
 -- `optics::microfacet::chi_pass` meets its contract: from the cosine, by `chi_pass_lem`.
-use borrow.Author.Rules.{rules}
 use Rattle.optics.proofs.SharedTerms.{chi_pass_lem}
 use Rattle.optics.proofs.microfacet.chi_pass.Goals as goal
 

@@ -3,7 +3,6 @@ use Rattle.floats.specs.Float.{epsilon, decimal}
 use Rattle.numbers.specs.SphericalUtils.{cos_theta}
 use Rattle.optics.specs.SharedTerms.{chi_pass_at}
 use lib.Ieee.{of_bits}
-use borrow.Author.Rules.{rules}
 use Rattle.optics.proofs.microfacet.chi_pass_at.Goals as goal
 
 pub returns : goal.returns

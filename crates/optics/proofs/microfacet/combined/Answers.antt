@@ -1,6 +1,5 @@
 -- `optics::microfacet::combined` meets its contract: the calls give what their contracts promise, and the definition is read in the same order.
 use Rattle.optics.specs.Sampler.{combined}
-use borrow.Author.Rules.{rules}
 use Rattle.optics.proofs.microfacet.combined.Goals as goal
 
 pub returns : goal.returns

@@ -1,7 +1,6 @@
 -- `optics::microfacet::complex_cos_i` meets its contract: the calls give what their contracts promise, and the definition is read in the same order.
 use Rattle.optics.specs.Fresnel.{complex_cos_i}
 use lib.Ieee.{of_bits}
-use borrow.Author.Rules.{rules}
 use Rattle.optics.proofs.microfacet.complex_cos_i.Goals as goal
 
 pub returns : goal.returns

@@ -1,5 +1,4 @@
 -- `optics::microfacet::f` meets its contract: what is known of the spectra, handed on, changes nothing (`f_metal_from_lem`, `f_glass_from_lem`).
-use borrow.Author.Rules.{rules}
 use Rattle.optics.proofs.SharedTerms.{f_metal_from_lem, f_glass_from_lem}
 use Rattle.optics.proofs.microfacet.f.Goals as goal
 

@@ -1,5 +1,4 @@
 -- `optics::microfacet::f_on_glass` meets its contract: the calls give what their contracts promise, and the definition is read in the same order.
-use borrow.Author.Rules.{rules}
 use Rattle.optics.specs.Fresnel.{f_at}
 use Rattle.optics.specs.SharedTerms.{f_glass_from}
 use Rattle.optics.proofs.microfacet.f_on_glass.Goals as goal

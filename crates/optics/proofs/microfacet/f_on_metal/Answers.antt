@@ -1,7 +1,6 @@
 -- `optics::microfacet::f_on_metal` meets its contract: the calls give what their contracts promise, and the definition is read in the same order.
 use Rattle.optics.specs.Fresnel.{f_at}
 use Rattle.optics.specs.SharedTerms.{f_metal_from}
-use borrow.Author.Rules.{rules}
 use Rattle.optics.proofs.microfacet.f_on_metal.Goals as goal
 
 pub returns : goal.returns

@@ -1,5 +1,4 @@
 -- `optics::microfacet::fr_real` meets its contract: Snell's law handed on changes nothing, by `fr_real_from_lem`.
-use borrow.Author.Rules.{rules}
 use Rattle.optics.proofs.SharedTerms.{fr_real_from_lem}
 use Rattle.optics.proofs.microfacet.fr_real.Goals as goal
 

@@ -2,7 +2,6 @@
 use Rattle.optics.specs.Fresnel.{is_total, unpolarized, contrast, mean_square}
 use Rattle.optics.specs.SharedTerms.{fr_real_from}
 use lib.Ieee.{of_bits}
-use borrow.Author.Rules.{rules}
 use Rattle.optics.proofs.microfacet.fr_real_from.Goals as goal
 
 pub returns-then-snell : goal.returns-then-snell

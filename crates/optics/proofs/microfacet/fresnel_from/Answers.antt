@@ -1,7 +1,6 @@
 -- `optics::microfacet::fresnel_from` meets its contract: the calls give what their contracts promise, and the definition is read in the same order.
 use Rattle.optics.specs.SharedTerms.{fresnel_from}
 use lib.Ieee.{of_bits}
-use borrow.Author.Rules.{rules}
 use Rattle.optics.proofs.microfacet.fresnel_from.Goals as goal
 
 pub returns-then-eta : goal.returns-then-eta

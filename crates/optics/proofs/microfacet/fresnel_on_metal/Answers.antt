@@ -1,5 +1,4 @@
 -- `optics::microfacet::fresnel_on_metal` meets its contract: the Fresnel term of the optical constants at the wavelength.
-use borrow.Author.Rules.{rules}
 use Rattle.optics.proofs.microfacet.fresnel_on_metal.Goals as goal
 
 pub returns : goal.returns

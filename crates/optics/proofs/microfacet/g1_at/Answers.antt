@@ -2,7 +2,6 @@
 use Rattle.optics.specs.Facets.{masked}
 use Rattle.optics.specs.SharedTerms.{g1_at}
 use lib.Ieee.{of_bits}
-use borrow.Author.Rules.{rules}
 use Rattle.optics.proofs.microfacet.g1_at.Goals as goal
 
 pub returns-then-chi_pass_at : goal.returns-then-chi_pass_at

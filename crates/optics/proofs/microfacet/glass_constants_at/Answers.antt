@@ -1,5 +1,4 @@
 -- `optics::microfacet::glass_constants_at` meets its contract: a read from the grid point is the lookup (`sample_from_point`).
-use borrow.Author.Rules.{rules}
 use Rattle.numbers.proofs.dense_spectrum.SampleFrom.{sample_from_point}
 use Rattle.optics.specs.Surface.{eta_from, k_from}
 use Rattle.optics.specs.SharedTerms.{outer_from, quotient_from}

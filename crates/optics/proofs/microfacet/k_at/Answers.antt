@@ -1,5 +1,4 @@
 -- `optics::microfacet::k_at` meets its contract: a read from the grid point is the lookup (`sample_from_point`).
-use borrow.Author.Rules.{rules}
 use Rattle.numbers.proofs.dense_spectrum.SampleFrom.{sample_from_point}
 use Rattle.optics.specs.Surface.{k_from, k_at}
 use Rattle.optics.proofs.microfacet.k_at.Goals as goal

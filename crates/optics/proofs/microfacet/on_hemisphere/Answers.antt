@@ -1,7 +1,6 @@
 -- `optics::microfacet::on_hemisphere` meets its contract: the calls give what their contracts promise, and the definition is read in the same order.
 use Rattle.optics.specs.Sampler.{on_hemisphere, disk_x, disk_h, disk_y, disk_z, lerp}
 use lib.Ieee.{of_bits}
-use borrow.Author.Rules.{rules}
 use Rattle.optics.proofs.microfacet.on_hemisphere.Goals as goal
 
 pub returns : goal.returns

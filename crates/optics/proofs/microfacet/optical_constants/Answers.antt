@@ -1,5 +1,4 @@
 -- `optics::microfacet::optical_constants` meets its contract: by the kind, read at eta's step.
-use borrow.Author.Rules.{rules}
 use Rattle.optics.specs.Surface.{eta_at, k_at, outer_at, index_on}
 use Rattle.optics.specs.SharedTerms.{outer_from, quotient_from}
 use Rattle.optics.proofs.microfacet.optical_constants.Goals as goal

@@ -1,5 +1,4 @@
 -- `optics::microfacet::outer_at` meets its contract: a constant spectrum's first entry, else the read.
-use borrow.Author.Rules.{rules}
 use Rattle.optics.proofs.microfacet.outer_at.Goals as goal
 
 pub returns-then-outer_constant : goal.returns-then-outer_constant

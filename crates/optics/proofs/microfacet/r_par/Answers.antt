@@ -1,6 +1,5 @@
 -- `optics::microfacet::r_par` meets its contract: the calls give what their contracts promise, and the definition is read in the same order.
 use Rattle.optics.specs.Fresnel.{r_par}
-use borrow.Author.Rules.{rules}
 use Rattle.optics.proofs.microfacet.r_par.Goals as goal
 
 pub returns : goal.returns

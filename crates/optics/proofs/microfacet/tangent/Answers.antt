@@ -2,7 +2,6 @@
 use Rattle.floats.specs.Float.{epsilon, decimal}
 use Rattle.optics.specs.Sampler.{tangent}
 use lib.Ieee.{of_bits}
-use borrow.Author.Rules.{rules}
 use Rattle.optics.proofs.microfacet.tangent.Goals as goal
 
 pub returns-then-v : goal.returns-then-v

@@ -1,5 +1,5 @@
 -- `path::bsdf::bounce_with` meets its contract: what is known of the surface is what the definition asks first, and the rest is read in the same order.
-use Rattle.std.proofs.Common.{◌≡◌, List, sym, refl, ap, ◌∙◌, rules}
+use Rattle.std.proofs.Common.{◌≡◌, List, sym, refl, ap, ◌∙◌}
 use lib.Ieee.{Float}
 use Rattle.numbers.specs.DenseSpectrum.{step_of}
 use Rattle.optics.specs.Known.{known_on_glass}

@@ -1,5 +1,4 @@
 -- `path::bsdf::density_of` meets its contract: the calls give what their contracts promise, and the definition is read in the same order.
-use Rattle.std.proofs.Common.{rules}
 use Rattle.path.specs.Answer.{density_of}
 use Rattle.path.proofs.bsdf.density_of.Goals as goal
 

@@ -1,7 +1,6 @@
 -- `path::bsdf::known_on` meets its contract: of what is refused and of metal only the step is asked, and of glass it is what the tests gave.
 use Rattle.numbers.specs.Refusal.{verdict}
 use Rattle.path.specs.Known.{known_on}
-use Rattle.std.proofs.Common.{rules}
 use Rattle.path.proofs.bsdf.known_on.Goals as goal
 
 pub returns-in-Refused : goal.returns-in-Refused

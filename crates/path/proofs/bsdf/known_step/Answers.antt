@@ -1,6 +1,5 @@
 -- `path::bsdf::known_step` meets its contract: the step, and nothing besides.
 use Rattle.path.specs.Known.{known_step}
-use Rattle.std.proofs.Common.{rules}
 use Rattle.path.proofs.bsdf.known_step.Goals as goal
 
 pub returns : goal.returns

@@ -1,5 +1,4 @@
 -- `path::bsdf::left_on_glass` meets its contract: by the test.
-use Rattle.std.proofs.Common.{rules}
 use Rattle.path.proofs.bsdf.left_on_glass.Goals as goal
 
 pub returns-then-constant : goal.returns-then-constant

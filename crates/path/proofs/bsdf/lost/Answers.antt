@@ -1,6 +1,5 @@
 -- `path::bsdf::lost` meets its contract: the calls give what their contracts promise, and the definition is read in the same order.
 use lib.Ieee.{of_bits}
-use Rattle.std.proofs.Common.{rules}
 use Rattle.path.specs.Answer.{outcome}
 use Rattle.path.proofs.bsdf.lost.Goals as goal
 

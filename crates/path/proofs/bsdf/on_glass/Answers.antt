@@ -1,6 +1,6 @@
 -- `path::bsdf::on_glass` meets its contract: each stage is what a call gave, what is known of the spectra and Snell's law handed on change nothing, by
 -- `index_from-known`, `k_from-known`, `f_at_from` and `dielectric_from_snell_lem`, and OnSurface has the answer from the stages.
-use Rattle.std.proofs.Common.{sym, rules}
+use Rattle.std.proofs.Common.{sym}
 use lib.Ieee.{of_bits}
 use Rattle.optics.specs.Bxdf.{rest}
 use Rattle.optics.proofs.SharedTerms.{f_at_from, dielectric_from_snell_lem, index_from-known, k_from-known}

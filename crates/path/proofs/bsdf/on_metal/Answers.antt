@@ -1,5 +1,5 @@
 -- `path::bsdf::on_metal` meets its contract: each stage is what a call gave, the step handed on changes nothing (`f_metal_from_lem`), and OnSurface has the answer from the stages.
-use Rattle.std.proofs.Common.{sym, rules}
+use Rattle.std.proofs.Common.{sym}
 use Rattle.optics.specs.Surface.{medium}
 use Rattle.optics.proofs.SharedTerms.{f_metal_from_lem}
 use Rattle.path.specs.Answer.{outcome}

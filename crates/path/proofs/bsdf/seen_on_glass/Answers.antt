@@ -1,5 +1,4 @@
 -- `path::bsdf::seen_on_glass` meets its contract: the calls give what their contracts promise, and Λ(wo) handed on changes nothing, by `glass-density`.
-use Rattle.std.proofs.Common.{rules}
 use Rattle.floats.specs.Float.{f0}
 use Rattle.optics.proofs.SharedTerms.{glass-density}
 use Rattle.path.proofs.bsdf.seen_on_glass.Goals as goal

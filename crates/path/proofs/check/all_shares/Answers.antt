@@ -1,5 +1,4 @@
 -- `path::check::all_shares` meets its contract: each of the four tests gives what its contract promises.
-use Rattle.std.proofs.Common.{rules}
 use lib.Ieee.{of_bits}
 use Rattle.path.proofs.check.all_shares.Goals as goal
 

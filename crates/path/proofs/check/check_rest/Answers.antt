@@ -1,5 +1,4 @@
 -- `path::check::check_rest` meets its contract: each check gives what its contract promises, in the order of the definition.
-use Rattle.std.proofs.Common.{rules}
 use Rattle.numbers.specs.Refusal.{number}
 use Rattle.path.specs.Path.{is_power, is_filter}
 use Rattle.path.specs.Bounce.{check_rest}

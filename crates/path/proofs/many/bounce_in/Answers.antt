@@ -1,5 +1,4 @@
 -- `path::many::bounce_in` meets its contract: the nineteen numbers in their places.
-use Rattle.std.proofs.Common.{rules}
 use Rattle.path.specs.Many.{bounce_in}
 use Rattle.path.proofs.many.bounce_in.Goals as goal
 

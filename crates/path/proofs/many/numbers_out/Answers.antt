@@ -1,5 +1,4 @@
 -- `path::many::numbers_out` meets its contract: the path and the answer's layout, number by number.
-use Rattle.std.proofs.Common.{rules}
 use Rattle.path.specs.Many.{numbers_out, result_numbers}
 use Rattle.path.proofs.many.numbers_out.Goals as goal
 

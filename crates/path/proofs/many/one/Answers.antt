@@ -1,5 +1,4 @@
 -- `path::many::one` meets its contract: the path, the bounce, the answer and its layout.
-use Rattle.std.proofs.Common.{rules}
 use Rattle.path.specs.Many.{bounced}
 use Rattle.path.proofs.many.one.Goals as goal
 

@@ -1,5 +1,5 @@
 -- `path::many::path_in` meets its contract: the eight numbers in their places.
-use Rattle.std.proofs.Common.{refl, rules}
+use Rattle.std.proofs.Common.{refl}
 use Rattle.path.specs.Many.{path_in}
 use Rattle.path.proofs.many.path_in.Goals as goal
 

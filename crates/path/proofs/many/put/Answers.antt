@@ -1,5 +1,5 @@
 -- `path::many::put` meets its contract: the first j numbers are in their places. The measure is what is left of 18.
-use Rattle.std.proofs.Common.{◌≡◌, ℕ, ◌+◌, ◌-◌, ◌<◌, ◌≤◌, List, length, get_or, set, sym, refl, ap, ◌∙◌, le_antisymm, add-one, arith, length-set, rules}
+use Rattle.std.proofs.Common.{◌≡◌, ℕ, ◌+◌, ◌<◌, List, length, get_or, set, sym, refl, ap, ◌∙◌, le_antisymm, add-one, arith, length-set}
 use lib.Ieee.{Float, nan}
 use lib.Seq.{paste, paste-zero, paste-suc}
 use Rattle.path.proofs.many.put.Goals as goal

@@ -1,5 +1,5 @@
 -- `path::many::put_one` meets its contract: the part that is lent is the bounce's 27 numbers, and what comes of them is stored.
-use Rattle.std.proofs.Common.{◌≡◌, ℕ, ◌+◌, ◌-◌, ◌*◌, List, length, take, drop, ap, ◌∙◌, arith, rules}
+use Rattle.std.proofs.Common.{◌≡◌, ℕ, ◌+◌, ◌-◌, ◌*◌, List, length, take, drop, ap, ◌∙◌, arith}
 use lib.Ieee.{Float}
 use lib.Seq.{paste}
 use Rattle.optics.specs.Surface.{microsurface}

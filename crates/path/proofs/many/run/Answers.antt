@@ -1,5 +1,5 @@
 -- `path::many::run` meets its contract: the first i bounces are stored and the rest of the output is as it was. The measure is what is left of n.
-use Rattle.std.proofs.Common.{◌≡◌, ℕ, ◌+◌, ◌-◌, ◌*◌, ◌≤◌, List, ◌++◌, length, drop, sym, refl, ap, ◌∙◌, le_of_eq, le_antisymm, arith}
+use Rattle.std.proofs.Common.{◌≡◌, ℕ, ◌+◌, ◌*◌, ◌≤◌, List, ◌++◌, length, drop, sym, refl, ap, ◌∙◌, le_of_eq, le_antisymm, arith}
 use lib.Ieee.{Float}
 use lib.Seq.{paste, length-paste}
 use Rattle.optics.specs.Surface.{Microsurface, microsurface}

@@ -1,6 +1,5 @@
 -- `path::plain::of_bounced` meets its contract: each case of the answer is laid out as the definition has it.
 use lib.Ieee.{of_bits}
-use Rattle.std.proofs.Common.{rules}
 use Rattle.path.specs.Answer.{outcome}
 use Rattle.path.specs.Plain.{bounce_result}
 use Rattle.path.proofs.plain.of_bounced.Goals as goal

@@ -1,6 +1,5 @@
 -- `path::plain::of_density` meets its contract: each case is laid out as the definition has it.
 use lib.Ieee.{of_bits}
-use Rattle.std.proofs.Common.{rules}
 use Rattle.path.specs.Plain.{density_record}
 use Rattle.path.proofs.plain.of_density.Goals as goal
 

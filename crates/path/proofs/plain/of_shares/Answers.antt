@@ -1,6 +1,5 @@
 -- `path::plain::of_shares` meets its contract: each case is laid out as the definition has it.
 use lib.Ieee.{of_bits}
-use Rattle.std.proofs.Common.{rules}
 use Rattle.path.specs.Plain.{shares_record}
 use Rattle.path.proofs.plain.of_shares.Goals as goal
 

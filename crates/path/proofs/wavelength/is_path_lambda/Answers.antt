@@ -1,5 +1,4 @@
 -- `path::wavelength::is_path_lambda` meets its contract: each of the four tests gives what its contract promises.
-use Rattle.std.proofs.Common.{rules}
 use Rattle.path.specs.Path.{is_path_lambda, leading}
 use Rattle.path.proofs.wavelength.is_path_lambda.Goals as goal
 

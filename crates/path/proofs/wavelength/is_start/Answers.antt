@@ -1,5 +1,4 @@
 -- `path::wavelength::is_start` meets its contract: each of the four tests gives what its contract promises.
-use Rattle.std.proofs.Common.{rules}
 use Rattle.path.specs.Path.{is_start}
 use Rattle.path.proofs.wavelength.is_start.Goals as goal
 

@@ -1,6 +1,5 @@
 -- `path::wavelength::terminate` meets its contract: the calls give what their contracts promise, and the definition is read in the same order.
 use lib.Ieee.{of_bits}
-use Rattle.std.proofs.Common.{rules}
 use Rattle.path.specs.Path.{terminate, leading}
 use Rattle.path.proofs.wavelength.terminate.Goals as goal
 

@@ -1,5 +1,4 @@
 -- `path::weight::metal_filter` meets its contract: the calls give what their contracts promise, and the definition is read in the same order.
-use Rattle.std.proofs.Common.{rules}
 use Rattle.path.specs.Bounce.{metal_filter}
 use Rattle.path.proofs.weight.metal_filter.Goals as goal
 

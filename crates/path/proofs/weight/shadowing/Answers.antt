@@ -1,6 +1,5 @@
 -- `path::weight::shadowing` meets its contract: Λ(wo) and wo · wh handed on change nothing, by `g_over_g1_at_lem`.
 use lib.Ieee.{of_bits}
-use Rattle.std.proofs.Common.{rules}
 use Rattle.optics.proofs.SharedTerms.{g_over_g1_at_lem}
 use Rattle.path.specs.Bounce.{shadowing}
 use Rattle.path.proofs.weight.shadowing.Goals as goal

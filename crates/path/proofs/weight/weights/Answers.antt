@@ -1,5 +1,4 @@
 -- `path::weight::weights` meets its contract: the calls give what their contracts promise, and the definition is read in the same order.
-use Rattle.std.proofs.Common.{rules}
 use Rattle.path.specs.Bounce.{weights_of}
 use Rattle.path.proofs.weight.weights.Goals as goal
 

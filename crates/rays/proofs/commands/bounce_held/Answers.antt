@@ -1,5 +1,4 @@
 -- `bounce_held` meets its contract: the path that is handed out bounces, and the path of the answer is kept.
-use borrow.Author.Rules.{rules}
 use Rattle.rays.proofs.commands.bounce_held.Goals as goal
 
 pub returns : goal.returns

@@ -1,7 +1,4 @@
 -- `all` is safe and ends: the measure is how many candidates are left, and one that is put leaves the buffer as long as it is.
-use mathlib.Core.Path.{◌≡◌, refl}
-use Prim.Native.Nat.{◌-◌}
-use lib.ListN.{length}
 use native.Mathlib.Omega.{arith}
 use borrow.Author.Rules.{rules}
 use borrow.Author.Tests.{ltb-true}

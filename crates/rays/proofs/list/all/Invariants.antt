@@ -1,10 +1,7 @@
 -- `all` is safe and ends: the measure is how many candidates are left, and one that is put leaves the buffer as long as it is.
-use mathlib.Core.Path.{◌≡◌, refl}
+use mathlib.Core.Path.{◌≡◌}
 use Prim.Native.Nat.{◌-◌}
 use lib.ListN.{length}
-use native.Mathlib.Omega.{arith}
-use borrow.Author.Rules.{rules}
-use borrow.Author.Tests.{ltb-true}
 use Rattle.rays.proofs.list.all.Given as goal
 
 abbrev pub invariant-loop-i : goal.invariant-loop-i

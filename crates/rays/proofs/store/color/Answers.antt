@@ -1,5 +1,4 @@
 -- `color` meets its contract: the four numbers in their places.
-use borrow.Author.Rules.{rules}
 use Rattle.rays.specs.Store.{color_at}
 use Rattle.rays.proofs.store.color.Goals as goal
 

@@ -1,5 +1,4 @@
 -- `keep_path` meets its contract: the path's numbers from its place on.
-use borrow.Author.Rules.{rules}
 use Rattle.rays.specs.Store.{keep_path}
 use Rattle.rays.proofs.store.keep_path.Goals as goal
 

@@ -1,6 +1,5 @@
 -- `part` is safe: the second test keeps the part's end in the values, which are no more than memory holds.
 use native.Mathlib.Omega.{arith}
-use borrow.Author.Rules.{rules}
 use borrow.Author.Tests.{leb-true}
 use Rattle.rays.proofs.store.part.Goals as goal
 

@@ -1,6 +1,5 @@
 -- `path_place` meets its contract: it is the product itself.
 use mathlib.Core.Path.{refl}
-use borrow.Author.Rules.{rules}
 use Rattle.rays.specs.Store.{path_place}
 use Rattle.rays.proofs.store.path_place.Goals as goal
 

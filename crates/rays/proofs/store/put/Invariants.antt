@@ -1,13 +1,8 @@
 -- `put` meets its contract: what is left to store, stored in what the values are by now, is what all would be. The measure is how many numbers are left.
 use Prim.Native.Nat.{◌-◌}
-use mathlib.Core.Path.{◌≡◌, refl, ◌∙◌}
-use native.Mathlib.Omega.{arith}
-use lib.Ieee.{nan}
-use lib.ListN.{length, get_or, drop, length-set}
+use mathlib.Core.Path.{◌≡◌}
+use lib.ListN.{length, drop}
 use lib.Seq.{sets}
-use borrow.Author.Rules.{rules}
-use borrow.Author.Tests.{ltb-true, ltb-false}
-use Rattle.rays.proofs.Lists.{next, done, full}
 use Rattle.rays.proofs.store.put.Given as goal
 
 abbrev pub invariant-loop-i : goal.invariant-loop-i

@@ -1,5 +1,4 @@
 -- `rulvimba::bounces::rulvimba_bounces` meets its contract: what many bounces promise, on the surface of the record.
-use borrow.Author.Rules.{rules}
 use Rattle.rulvimba.proofs.bounces.rulvimba_bounces.Goals as goal
 
 pub returns : goal.returns

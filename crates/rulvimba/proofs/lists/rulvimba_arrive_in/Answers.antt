@@ -1,6 +1,5 @@
 -- `rulvimba::lists::rulvimba_arrive_in` meets its contract: the number of what `candidates::list::arrive` answers.
 use mathlib.Core.Path.{ap, ◌∙◌}
-use borrow.Author.Rules.{rules}
 use Rattle.rulvimba.specs.Results.{check_number}
 use Rattle.rulvimba.proofs.lists.rulvimba_arrive_in.Goals as goal
 

@@ -1,6 +1,5 @@
 -- `rulvimba::lists::rulvimba_depart_in` meets its contract: the number of what `candidates::list::depart` answers.
 use mathlib.Core.Path.{ap, ◌∙◌}
-use borrow.Author.Rules.{rules}
 use Rattle.rulvimba.specs.Results.{check_number}
 use Rattle.rulvimba.proofs.lists.rulvimba_depart_in.Goals as goal
 

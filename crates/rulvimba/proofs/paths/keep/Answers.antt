@@ -1,5 +1,4 @@
 -- `rulvimba::paths::keep` meets its contract: by the cases of the answer, a refusal storing nothing.
-use borrow.Author.Rules.{rules}
 use Rattle.path.specs.Answer.{outcome}
 use Rattle.rulvimba.specs.Paths.{path_after}
 use Rattle.rulvimba.proofs.paths.keep.Goals as goal

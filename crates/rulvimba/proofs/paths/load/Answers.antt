@@ -1,6 +1,5 @@
 -- `rulvimba::paths::load` meets its contract: the eight numbers in their places.
 use mathlib.Core.Path.{refl}
-use borrow.Author.Rules.{rules}
 use Rattle.rulvimba.specs.Paths.{path_in}
 use Rattle.rulvimba.proofs.paths.load.Goals as goal
 

@@ -1,5 +1,4 @@
 -- `rulvimba::paths::rulvimba_bounce` meets its contract: the path is read, then the answer is stored and laid out.
-use borrow.Author.Rules.{rules}
 use Rattle.rulvimba.proofs.paths.rulvimba_bounce.Goals as goal
 
 pub returns : goal.returns

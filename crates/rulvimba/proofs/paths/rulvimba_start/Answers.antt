@@ -1,6 +1,5 @@
 -- `rulvimba::paths::rulvimba_start` meets its contract: by the cases of the start.
 use mathlib.Core.Path.{refl}
-use borrow.Author.Rules.{rules}
 use Rattle.path.specs.Answer.{started}
 use Rattle.rulvimba.specs.Paths.{start_number, path_started}
 use Rattle.rulvimba.proofs.paths.rulvimba_start.Goals as goal

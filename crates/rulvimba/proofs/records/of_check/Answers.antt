@@ -1,5 +1,4 @@
 -- `rulvimba::records::of_check` meets its contract: each case is laid out as the definition has it.
-use borrow.Author.Rules.{rules}
 use Rattle.numbers.specs.Refusal.{verdict}
 use Rattle.rulvimba.specs.Results.{check_number}
 use Rattle.rulvimba.proofs.records.of_check.Goals as goal

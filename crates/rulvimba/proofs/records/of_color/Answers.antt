@@ -1,6 +1,5 @@
 -- `rulvimba::records::of_color` meets its contract: each case of the answer is laid out as the definition has it.
 use lib.Ieee.{of_bits}
-use borrow.Author.Rules.{rules}
 use Rattle.counter.specs.Counter.{color_answer}
 use Rattle.rulvimba.specs.Results.{color_result}
 use Rattle.rulvimba.proofs.records.of_color.Goals as goal

@@ -1,6 +1,5 @@
 -- `rulvimba::records::of_reflect` meets its contract: each case of the answer is laid out as the definition has it.
 use lib.Ieee.{of_bits}
-use borrow.Author.Rules.{rules}
 use Rattle.counter.specs.Counter.{reflect_answer}
 use Rattle.rulvimba.specs.Results.{direction_result}
 use Rattle.rulvimba.proofs.records.of_reflect.Goals as goal

@@ -1,6 +1,5 @@
 -- `rulvimba::records::of_refract` meets its contract: each case of the answer is laid out as the definition has it.
 use lib.Ieee.{of_bits}
-use borrow.Author.Rules.{rules}
 use Rattle.counter.specs.Counter.{refract_answer}
 use Rattle.rulvimba.specs.Results.{direction_result}
 use Rattle.rulvimba.proofs.records.of_refract.Goals as goal

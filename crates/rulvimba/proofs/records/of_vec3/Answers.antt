@@ -1,6 +1,5 @@
 -- `rulvimba::records::of_vec3` meets its contract: each case of the answer is laid out as the definition has it.
 use lib.Ieee.{of_bits}
-use borrow.Author.Rules.{rules}
 use Rattle.numbers.specs.Checked.{vec3_answer}
 use Rattle.rulvimba.specs.Results.{vec3_result}
 use Rattle.rulvimba.proofs.records.of_vec3.Goals as goal

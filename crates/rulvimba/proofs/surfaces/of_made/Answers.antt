@@ -1,6 +1,5 @@
 -- `rulvimba::surfaces::of_made` meets its contract: each case of the answer is laid out as the definition has it.
 use lib.Ieee.{of_bits}
-use borrow.Author.Rules.{rules}
 use Rattle.counter.specs.Counter.{surface_answer}
 use Rattle.rulvimba.specs.Surfaces.{surface_result, surface_record}
 use Rattle.rulvimba.proofs.surfaces.of_made.Goals as goal

@@ -1,5 +1,4 @@
 -- `rulvimba::surfaces::of_record` meets its contract: each field is what its function gives.
-use borrow.Author.Rules.{rules}
 use Rattle.rulvimba.specs.Surfaces.{surface_of}
 use Rattle.rulvimba.proofs.surfaces.of_record.Goals as goal
 

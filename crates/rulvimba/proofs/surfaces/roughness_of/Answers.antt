@@ -1,5 +1,4 @@
 -- `rulvimba::surfaces::roughness_of` meets its contract: by the test of the kind's code.
-use borrow.Author.Rules.{rules}
 use Rattle.rulvimba.specs.Surfaces.{roughness_of}
 use Rattle.rulvimba.proofs.surfaces.roughness_of.Goals as goal
 

@@ -1,5 +1,4 @@
 -- `rulvimba::surfaces::rulvimba_check_surface` meets its contract: the surface, the answer and its layout.
-use borrow.Author.Rules.{rules}
 use Rattle.rulvimba.proofs.surfaces.rulvimba_check_surface.Goals as goal
 
 pub returns : goal.returns

@@ -1,5 +1,4 @@
 -- `rulvimba::surfaces::rulvimba_make_surface` meets its contract: the kind, the roughness, the answer and its layout.
-use borrow.Author.Rules.{rules}
 use Rattle.rulvimba.proofs.surfaces.rulvimba_make_surface.Goals as goal
 
 pub returns : goal.returns

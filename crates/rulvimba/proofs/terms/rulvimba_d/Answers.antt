@@ -1,5 +1,4 @@
 -- `rulvimba::terms::rulvimba_d` meets its contract: the surface, the answer and its layout.
-use borrow.Author.Rules.{rules}
 use Rattle.rulvimba.proofs.terms.rulvimba_d.Goals as goal
 
 pub returns : goal.returns

@@ -1,5 +1,4 @@
 -- `rulvimba::terms::rulvimba_reflect` meets its contract: the answer and its layout.
-use borrow.Author.Rules.{rules}
 use Rattle.rulvimba.proofs.terms.rulvimba_reflect.Goals as goal
 
 pub returns : goal.returns

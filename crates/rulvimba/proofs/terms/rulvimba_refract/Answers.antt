@@ -1,5 +1,4 @@
 -- `rulvimba::terms::rulvimba_refract` meets its contract: the answer and its layout.
-use borrow.Author.Rules.{rules}
 use Rattle.rulvimba.proofs.terms.rulvimba_refract.Goals as goal
 
 pub returns : goal.returns

@@ -1,6 +1,5 @@
 -- `line_feed` ends: the measure is how many bytes are left to look at.
 use Prim.Native.Nat.{◌-◌}
-use native.Mathlib.Omega.{arith}
 use Rattle.text.proofs.buffer.line_feed.Given as goal
 
 abbrev pub invariant-loop-at : goal.invariant-loop-at

@@ -1,6 +1,5 @@
 -- `move_byte` is safe: the second test keeps both places below the buffer's length.
 use native.Mathlib.Omega.{arith}
-use borrow.Author.Rules.{rules}
 use borrow.Author.Tests.{ltb-true}
 use Rattle.text.proofs.buffer.move_byte.Goals as goal
 

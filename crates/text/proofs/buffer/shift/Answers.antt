@@ -1,8 +1,4 @@
 -- `shift` is safe and ends: the measure is how many bytes are left to move, and a move leaves the buffer as long as it is.
-use mathlib.Core.Path.{◌≡◌, refl}
-use Prim.Native.Nat.{◌-◌}
-use lib.ListN.{length}
-use native.Mathlib.Omega.{arith}
 use borrow.Author.Rules.{rules}
 use Rattle.text.proofs.buffer.shift.Goals as goal
 

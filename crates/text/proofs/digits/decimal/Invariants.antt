@@ -1,7 +1,6 @@
 -- `decimal` is safe and ends: the measure is how many digits are left, and the value is kept below 10000 by its remainder.
 use Prim.Native.Nat.{◌-◌}
 use lib.ListN.{length}
-use native.Mathlib.Omega.{arith}
 use Rattle.text.proofs.digits.decimal.Given as goal
 
 abbrev pub invariant-loop-i : goal.invariant-loop-i

@@ -1,6 +1,5 @@
 -- `hex16` is safe: the second test bounds what is added.
 use native.Mathlib.Omega.{arith}
-use borrow.Author.Rules.{rules}
 use borrow.Author.Tests.{ltb-true}
 use Rattle.text.proofs.digits.hex16.Goals as goal
 

@@ -1,6 +1,5 @@
 -- `hex4` meets its contract: each of the four tests bounds its digit, and so they bound the sum.
 use native.Mathlib.Omega.{arith}
-use borrow.Author.Rules.{rules}
 use borrow.Author.Tests.{ltb-true}
 use Rattle.text.proofs.digits.hex4.Goals as goal
 

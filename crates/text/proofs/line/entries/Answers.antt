@@ -1,7 +1,4 @@
 -- `entries` is safe and ends: the measure is the number of turns that are left, and an entry that is kept leaves as many places as there are.
-use mathlib.Core.Path.{◌≡◌, refl}
-use lib.ListN.{length}
-use native.Mathlib.Omega.{arith}
 use borrow.Author.Rules.{rules}
 use Rattle.text.proofs.line.entries.Goals as goal
 

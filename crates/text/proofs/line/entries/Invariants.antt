@@ -1,8 +1,6 @@
 -- `entries` is safe and ends: the measure is the number of turns that are left, and an entry that is kept leaves as many places as there are.
-use mathlib.Core.Path.{◌≡◌, refl}
+use mathlib.Core.Path.{◌≡◌}
 use lib.ListN.{length}
-use native.Mathlib.Omega.{arith}
-use borrow.Author.Rules.{rules}
 use Rattle.text.proofs.line.entries.Given as goal
 
 abbrev pub invariant-loop-turns : goal.invariant-loop-turns

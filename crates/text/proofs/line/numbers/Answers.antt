@@ -1,9 +1,7 @@
 -- `numbers` is safe and ends: the index stays below the number of places, which a store leaves as it is.
-use mathlib.Core.Path.{◌≡◌, refl, ◌∙◌}
-use Prim.Native.Nat.{◌-◌}
-use lib.ListN.{length, length-set}
+use mathlib.Core.Path.{◌∙◌}
+use lib.ListN.{length-set}
 use native.Mathlib.Omega.{arith}
-use borrow.Author.Rules.{rules}
 use Rattle.text.proofs.line.numbers.Goals as goal
 
 pub loop-i-smaller : goal.loop-i-smaller

@@ -1,9 +1,7 @@
 -- `numbers` is safe and ends: the index stays below the number of places, which a store leaves as it is.
-use mathlib.Core.Path.{◌≡◌, refl, ◌∙◌}
+use mathlib.Core.Path.{◌≡◌}
 use Prim.Native.Nat.{◌-◌}
-use lib.ListN.{length, length-set}
-use native.Mathlib.Omega.{arith}
-use borrow.Author.Rules.{rules}
+use lib.ListN.{length}
 use Rattle.text.proofs.line.numbers.Given as goal
 
 abbrev pub invariant-loop-i : goal.invariant-loop-i

@@ -1,7 +1,4 @@
 -- `decimal` is safe and ends: the measure is the unit, of which a tenth is left, and a digit that is put leaves the buffer as long as it is.
-use mathlib.Core.Path.{◌≡◌, refl}
-use lib.ListN.{length}
-use native.Mathlib.Omega.{arith}
 use borrow.Author.Rules.{rules}
 use Rattle.text.proofs.output.decimal.Goals as goal
 

@@ -1,8 +1,4 @@
 -- `numbers` is safe and ends: the measure is how many numbers are left to put, and a number that is put leaves the buffer as long as it is.
-use mathlib.Core.Path.{◌≡◌, refl}
-use Prim.Native.Nat.{◌-◌}
-use lib.ListN.{length}
-use native.Mathlib.Omega.{arith}
 use borrow.Author.Rules.{rules}
 use Rattle.text.proofs.output.numbers.Goals as goal
 

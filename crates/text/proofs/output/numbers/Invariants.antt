@@ -1,9 +1,7 @@
 -- `numbers` is safe and ends: the measure is how many numbers are left to put, and a number that is put leaves the buffer as long as it is.
-use mathlib.Core.Path.{◌≡◌, refl}
+use mathlib.Core.Path.{◌≡◌}
 use Prim.Native.Nat.{◌-◌}
 use lib.ListN.{length}
-use native.Mathlib.Omega.{arith}
-use borrow.Author.Rules.{rules}
 use Rattle.text.proofs.output.numbers.Given as goal
 
 abbrev pub invariant-loop-i : goal.invariant-loop-i

@@ -1,5 +1,4 @@
 -- `bits` meets its contract: a value that equals itself is no NaN, and so has one pattern; the other patterns are that of the one NaN.
-use mathlib.Core.Path.{refl}
 use lib.Ieee.{to_bits}
 use Rattle.floats.proofs.float.FloatBits.{is_nan_lem, not_nan}
 use Rattle.text.proofs.patterns.bits.Goals as goal

@@ -1,6 +1,5 @@
 -- `of_bits` meets its contract: a pattern is a NaN's exactly if it is above the infinity's, its sign aside, and there is one NaN.
 use mathlib.Core.Path.{◌≡◌, refl, sym, ◌∙◌}
-use borrow.Author.Rules.{rules}
 use native.Mathlib.Omega.{arith}
 use Prim.Native.Nat.{◌%◌}
 use lib.Arith.{le→nltb}

@@ -1,7 +1,6 @@
 -- `same` is safe and ends: the measure is how many bytes are left of the name.
 use Prim.Native.Nat.{◌-◌}
 use lib.ListN.{length}
-use native.Mathlib.Omega.{arith}
 use Rattle.text.proofs.words.same.Given as goal
 
 abbrev pub invariant-loop-i : goal.invariant-loop-i

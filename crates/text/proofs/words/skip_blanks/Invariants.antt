@@ -1,7 +1,6 @@
 -- `skip_blanks` is safe and ends: the measure is how many bytes are left of the line.
 use Prim.Native.Nat.{◌-◌}
 use lib.ListN.{length}
-use native.Mathlib.Omega.{arith}
 use Rattle.text.proofs.words.skip_blanks.Given as goal
 
 abbrev pub invariant-loop-at : goal.invariant-loop-at

@@ -1,5 +1,4 @@
 -- `candidates::candidate::Candidate::check` meets its contract: the definition, call by call.
-use borrow.Author.Rules.{rules}
 use Rattle.numbers.specs.Refusal.{number}
 use Rattle.candidates.specs.Candidate.{check_candidate}
 use Rattle.candidates.proofs.candidate.Candidate.check.Goals as goal

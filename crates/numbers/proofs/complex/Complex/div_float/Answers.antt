@@ -1,6 +1,5 @@
 -- `numbers::complex::Complex::div_float` meets its contract: the calls give what their contracts promise, and the definition is read in the same order.
 use lib.Ieee.{of_bits}
-use Rattle.std.proofs.Common.{rules}
 use Rattle.numbers.specs.Complex.{div_float}
 use Rattle.numbers.proofs.complex.Complex.div_float.Goals as goal
 

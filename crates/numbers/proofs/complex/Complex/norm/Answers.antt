@@ -1,5 +1,4 @@
 -- `numbers::complex::Complex::norm` meets its contract: the calls give what their contracts promise, and the definition is read in the same order.
-use Rattle.std.proofs.Common.{rules}
 use Rattle.numbers.specs.Complex.{norm}
 use Rattle.numbers.proofs.complex.Complex.norm.Goals as goal
 

@@ -1,5 +1,4 @@
 -- `numbers::complex::Complex::sqrt` meets its contract: the calls give what their contracts promise, and the definition is read in the same order.
-use Rattle.std.proofs.Common.{rules}
 use Rattle.numbers.specs.Complex.{sqrt}
 use Rattle.numbers.proofs.complex.Complex.sqrt.Goals as goal
 

@@ -1,6 +1,6 @@
 -- `numbers::dense_spectrum::DenseSpectrum::is_constant` meets its contract: where the last entry is another than the first, not every entry equals it
 -- (`every_fails`); else the calls give what their contracts promise.
-use Rattle.std.proofs.Common.{◌-◌, length, sym, arith, rules}
+use Rattle.std.proofs.Common.{◌-◌, length, sym, arith}
 use lib.Ieee.{ne}
 use borrow.Author.Tests.{not-true}
 use Rattle.numbers.specs.DenseSpectrum.{is_constant}

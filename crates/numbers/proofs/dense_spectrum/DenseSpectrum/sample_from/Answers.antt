@@ -1,6 +1,5 @@
 -- `numbers::dense_spectrum::DenseSpectrum::sample_from` meets its contract: by the two tests, and the entries that the calls give.
 use lib.Ieee.{of_bits}
-use Rattle.std.proofs.Common.{rules}
 use Rattle.numbers.specs.GridPoint.{sample_from}
 use Rattle.numbers.proofs.dense_spectrum.DenseSpectrum.sample_from.Goals as goal
 

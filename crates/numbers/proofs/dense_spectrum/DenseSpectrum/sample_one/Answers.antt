@@ -1,5 +1,4 @@
 -- `numbers::dense_spectrum::DenseSpectrum::sample_one` meets its contract: a read from the grid point is the lookup (`sample_from_point`).
-use Rattle.std.proofs.Common.{rules}
 use Rattle.numbers.specs.DenseSpectrum.{sample_one}
 use Rattle.numbers.proofs.dense_spectrum.SampleFrom.{sample_from_point}
 use Rattle.numbers.proofs.dense_spectrum.DenseSpectrum.sample_one.Goals as goal

@@ -1,5 +1,4 @@
 -- `numbers::onb::Onb::to_world` meets its contract: the calls give what their contracts promise, and the definition is read in the same order.
-use Rattle.std.proofs.Common.{rules}
 use Rattle.numbers.specs.Onb.{to_world}
 use Rattle.numbers.proofs.onb.Onb.to_world.Goals as goal
 

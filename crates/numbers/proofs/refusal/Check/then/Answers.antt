@@ -1,5 +1,4 @@
 -- `numbers::refusal::Check::then` meets its contract: by the case of the first.
-use Rattle.std.proofs.Common.{rules}
 use Rattle.numbers.specs.Refusal.{◌then◌, verdict}
 use Rattle.numbers.proofs.refusal.Check.then.Goals as goal
 

@@ -1,5 +1,4 @@
 -- `numbers::refusal::Refusal::number` meets its contract: by the case of the refusal.
-use Rattle.std.proofs.Common.{rules}
 use Rattle.numbers.specs.Refusal.{number}
 use Rattle.numbers.proofs.refusal.Refusal.number.Goals as goal
 

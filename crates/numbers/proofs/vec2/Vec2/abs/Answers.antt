@@ -1,5 +1,4 @@
 -- `numbers::vec2::Vec2::abs` meets its contract: the calls give what their contracts promise, and the definition is read in the same order.
-use Rattle.std.proofs.Common.{rules}
 use Rattle.numbers.specs.Vec2.{abs}
 use Rattle.numbers.proofs.vec2.Vec2.abs.Goals as goal
 

@@ -1,5 +1,4 @@
 -- `numbers::vec3::Vec3::min_element` meets its contract: the calls give what their contracts promise, and the definition is read in the same order.
-use Rattle.std.proofs.Common.{rules}
 use Rattle.numbers.specs.Vec3.{min_element}
 use Rattle.numbers.proofs.vec3.Vec3.min_element.Goals as goal
 

@@ -1,6 +1,5 @@
 -- `optics::bxdf::conductor::half` meets its contract: the calls give what their contracts promise, and the definition is read in the same order.
 use Rattle.optics.specs.Density.{conductor_half}
-use borrow.Author.Rules.{rules}
 use Rattle.optics.proofs.bxdf.conductor.half.Goals as goal
 
 pub returns : goal.returns

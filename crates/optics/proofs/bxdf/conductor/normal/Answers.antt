@@ -1,7 +1,6 @@
 -- `optics::bxdf::conductor::normal` meets its contract: the calls give what their contracts promise, and the definition is read in the same order.
 use Rattle.optics.specs.Bxdf.{conductor_normal}
 use lib.Ieee.{of_bits}
-use borrow.Author.Rules.{rules}
 use Rattle.optics.proofs.bxdf.conductor.normal.Goals as goal
 
 pub returns-then-is_delta : goal.returns-then-is_delta

@@ -1,7 +1,6 @@
 -- `optics::bxdf::conductor::pdf` meets its contract: it is `pdf_at` from Λ(wo) where that is read, by `metal-density`.
 use Rattle.floats.specs.Float.{f0}
 use Rattle.optics.proofs.SharedTerms.{metal-density}
-use borrow.Author.Rules.{rules}
 use Rattle.optics.proofs.bxdf.conductor.pdf.Goals as goal
 
 pub returns : goal.returns

@@ -1,7 +1,6 @@
 -- `optics::bxdf::dielectric::half` meets its contract: the calls give what their contracts promise, and the definition is read in the same order.
 use Rattle.optics.specs.Density.{dielectric_half}
 use lib.Ieee.{of_bits}
-use borrow.Author.Rules.{rules}
 use Rattle.optics.proofs.bxdf.dielectric.half.Goals as goal
 
 pub returns-then-eta : goal.returns-then-eta

@@ -1,7 +1,6 @@
 -- `optics::bxdf::dielectric::is_smooth` meets its contract: by the test of the index, then that of the roughness.
 use Rattle.optics.specs.Bxdf.{is_smooth}
 use lib.Ieee.{of_bits}
-use borrow.Author.Rules.{rules}
 use Rattle.optics.proofs.bxdf.dielectric.is_smooth.Goals as goal
 
 pub returns-then-eta : goal.returns-then-eta

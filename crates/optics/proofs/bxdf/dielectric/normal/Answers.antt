@@ -1,7 +1,6 @@
 -- `optics::bxdf::dielectric::normal` meets its contract: the calls give what their contracts promise, and the definition is read in the same order.
 use Rattle.optics.specs.Bxdf.{dielectric_normal}
 use lib.Ieee.{of_bits}
-use borrow.Author.Rules.{rules}
 use Rattle.optics.proofs.bxdf.dielectric.normal.Goals as goal
 
 pub returns-then-is_smooth : goal.returns-then-is_smooth

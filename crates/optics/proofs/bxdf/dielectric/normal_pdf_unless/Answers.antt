@@ -1,6 +1,5 @@
 -- `optics::bxdf::dielectric::normal_pdf_unless` meets its contract: by the test that is taken.
 use lib.Ieee.{of_bits}
-use borrow.Author.Rules.{rules}
 use Rattle.optics.proofs.bxdf.dielectric.normal_pdf_unless.Goals as goal
 
 pub returns-then-smooth : goal.returns-then-smooth

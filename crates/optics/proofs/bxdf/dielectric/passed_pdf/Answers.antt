@@ -3,7 +3,6 @@ use Rattle.floats.specs.Float.{powi2}
 use Rattle.optics.specs.Bxdf.{rest}
 use Rattle.optics.specs.Density.{passed_pdf, bent_pdf}
 use lib.Ieee.{of_bits}
-use borrow.Author.Rules.{rules}
 use Rattle.optics.proofs.bxdf.dielectric.passed_pdf.Goals as goal
 
 pub returns-then-smooth : goal.returns-then-smooth

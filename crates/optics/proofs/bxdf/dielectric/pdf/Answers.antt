@@ -1,7 +1,6 @@
 -- `optics::bxdf::dielectric::pdf` meets its contract: it is `pdf_at` from Λ(wo) where that is read, by `glass-density`.
 use Rattle.floats.specs.Float.{f0}
 use Rattle.optics.proofs.SharedTerms.{glass-density}
-use borrow.Author.Rules.{rules}
 use Rattle.optics.proofs.bxdf.dielectric.pdf.Goals as goal
 
 pub returns : goal.returns

@@ -5,7 +5,6 @@ use Rattle.optics.specs.Density.{dielectric_pdf_from}
 use Rattle.optics.specs.Fresnel.{f_at}
 use Rattle.optics.proofs.SharedTerms.{normal_unread}
 use lib.Ieee.{of_bits}
-use borrow.Author.Rules.{rules}
 use Rattle.optics.proofs.bxdf.dielectric.pdf_at.Goals as goal
 
 pub returns-then-is_discarded : goal.returns-then-is_discarded

@@ -2,7 +2,6 @@
 use Rattle.optics.specs.Bxdf.{rest}
 use Rattle.optics.specs.Density.{reflected_pdf, mirrored_pdf}
 use lib.Ieee.{of_bits}
-use borrow.Author.Rules.{rules}
 use Rattle.optics.proofs.bxdf.dielectric.reflected_pdf.Goals as goal
 
 pub returns-then-smooth : goal.returns-then-smooth

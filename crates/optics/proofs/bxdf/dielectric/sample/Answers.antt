@@ -1,6 +1,5 @@
 -- `optics::bxdf::dielectric::sample` meets its contract: the calls give what their contracts promise, and Snell's law handed on changes nothing, by
 -- `f_at_from` and `dielectric_from_snell_lem`.
-use borrow.Author.Rules.{rules}
 use Rattle.optics.specs.Bxdf.{dielectric_sample}
 use Rattle.optics.proofs.SharedTerms.{f_at_from, dielectric_from_snell_lem}
 use Rattle.optics.proofs.bxdf.dielectric.sample.Goals as goal

@@ -1,7 +1,6 @@
 -- `optics::bxdf::dielectric::sample_from` meets its contract: by the branch that is taken, and what the mirror or the bend answers.
 use Rattle.optics.specs.Bxdf.{branch, reflected, refracted, sampled}
 use Rattle.optics.specs.SharedTerms.{dielectric_from_snell}
-use borrow.Author.Rules.{rules}
 use Rattle.optics.proofs.bxdf.dielectric.sample_from.Goals as goal
 
 pub returns-in-Direction : goal.returns-in-Direction

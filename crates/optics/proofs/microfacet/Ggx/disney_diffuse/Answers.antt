@@ -2,7 +2,6 @@
 use Rattle.floats.specs.Float.{powi2, decimal}
 use Rattle.optics.specs.Facets.{disney_diffuse, fd90, energy_factor}
 use lib.Ieee.{of_bits}
-use borrow.Author.Rules.{rules}
 use Rattle.optics.proofs.microfacet.Ggx.disney_diffuse.Goals as goal
 
 pub returns : goal.returns

@@ -1,7 +1,6 @@
 -- `optics::microfacet::Ggx::g1` meets its contract: the calls give what their contracts promise, and the definition is read in the same order.
 use Rattle.optics.specs.Facets.{g1, masked}
 use lib.Ieee.{of_bits}
-use borrow.Author.Rules.{rules}
 use Rattle.optics.proofs.microfacet.Ggx.g1.Goals as goal
 
 pub returns-then-chi_pass : goal.returns-then-chi_pass

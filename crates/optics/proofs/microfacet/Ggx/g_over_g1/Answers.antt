@@ -1,6 +1,5 @@
 -- `optics::microfacet::Ggx::g_over_g1` meets its contract: it is `g_over_g1_at` from Λ(wo) and wo · wh, by `g_over_g1_at_lem`.
 use Rattle.optics.proofs.SharedTerms.{g_over_g1_at_lem}
-use borrow.Author.Rules.{rules}
 use Rattle.optics.proofs.microfacet.Ggx.g_over_g1.Goals as goal
 
 pub returns : goal.returns

@@ -1,7 +1,6 @@
 -- `optics::microfacet::Ggx::g_over_g1_at` meets its contract: the calls give what their contracts promise, and the definition is read in the same order.
 use Rattle.optics.specs.SharedTerms.{g_over_g1_at}
 use lib.Ieee.{of_bits}
-use borrow.Author.Rules.{rules}
 use Rattle.optics.proofs.microfacet.Ggx.g_over_g1_at.Goals as goal
 
 pub returns-then-g1 : goal.returns-then-g1

@@ -3,7 +3,6 @@ use Rattle.floats.specs.Float.{powi2}
 use Rattle.numbers.specs.SphericalUtils.{tan2_theta, sin2_theta, cos2_theta, sin_theta}
 use Rattle.optics.specs.Facets.{lambda, lambda_of, alpha2}
 use lib.Ieee.{of_bits}
-use borrow.Author.Rules.{rules}
 use Rattle.optics.proofs.SharedTerms.{cos_phi_lem, sin_phi_lem}
 use Rattle.optics.proofs.microfacet.Ggx.lambda.Goals as goal
 

@@ -1,6 +1,5 @@
 -- `optics::microfacet::Ggx::lambda_unless` meets its contract: the definition is read in the same order.
 use lib.Ieee.{of_bits}
-use borrow.Author.Rules.{rules}
 use Rattle.optics.proofs.microfacet.Ggx.lambda_unless.Goals as goal
 
 pub returns-then-one_direction : goal.returns-then-one_direction

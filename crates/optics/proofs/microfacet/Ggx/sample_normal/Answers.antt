@@ -1,6 +1,5 @@
 -- `optics::microfacet::Ggx::sample_normal` meets its contract: the calls give what their contracts promise, and the definition is read in the same order.
 use Rattle.optics.specs.Sampler.{sample_normal}
-use borrow.Author.Rules.{rules}
 use Rattle.optics.proofs.microfacet.Ggx.sample_normal.Goals as goal
 
 pub returns : goal.returns

@@ -2,7 +2,6 @@
 use Rattle.numbers.specs.SphericalUtils.{cos_theta}
 use Rattle.optics.specs.SharedTerms.{sample_normal_pdf_at}
 use lib.Ieee.{of_bits}
-use borrow.Author.Rules.{rules}
 use Rattle.optics.proofs.microfacet.Ggx.sample_normal_pdf_at.Goals as goal
 
 pub returns : goal.returns

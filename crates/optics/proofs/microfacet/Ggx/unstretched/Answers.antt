@@ -2,7 +2,6 @@
 use Rattle.floats.specs.Float.{epsilon, decimal}
 use Rattle.optics.specs.Sampler.{unstretched}
 use lib.Ieee.{of_bits}
-use borrow.Author.Rules.{rules}
 use Rattle.optics.proofs.microfacet.Ggx.unstretched.Goals as goal
 
 pub returns : goal.returns

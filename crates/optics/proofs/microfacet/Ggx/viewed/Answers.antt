@@ -1,7 +1,6 @@
 -- `optics::microfacet::Ggx::viewed` meets its contract: the calls give what their contracts promise, and the definition is read in the same order.
 use Rattle.optics.specs.Sampler.{viewed, upright, stretched}
 use lib.Ieee.{of_bits}
-use borrow.Author.Rules.{rules}
 use Rattle.optics.proofs.microfacet.Ggx.viewed.Goals as goal
 
 pub returns-then-stretched : goal.returns-then-stretched

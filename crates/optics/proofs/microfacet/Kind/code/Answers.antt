@@ -1,5 +1,4 @@
 -- `optics::microfacet::Kind::code` meets its contract: each kind has its code.
-use borrow.Author.Rules.{rules}
 use Rattle.optics.specs.Surface.{kind_code}
 use Rattle.optics.proofs.microfacet.Kind.code.Goals as goal
 

@@ -1,5 +1,4 @@
 -- `optics::microfacet::Known::on_glass` meets its contract: the calls give what their contracts promise.
-use borrow.Author.Rules.{rules}
 use Rattle.optics.specs.Surface.{constant_eta}
 use Rattle.optics.specs.Known.{known_on_glass}
 use Rattle.optics.proofs.microfacet.Known.on_glass.Goals as goal

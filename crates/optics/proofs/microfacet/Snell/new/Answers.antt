@@ -2,7 +2,6 @@
 use Rattle.optics.specs.Fresnel.{sin2_i, cos_i}
 use Rattle.optics.specs.SharedTerms.{snell}
 use lib.Ieee.{of_bits}
-use borrow.Author.Rules.{rules}
 use Rattle.optics.proofs.microfacet.Snell.new.Goals as goal
 
 pub returns : goal.returns

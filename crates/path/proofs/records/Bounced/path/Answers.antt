@@ -1,5 +1,4 @@
 -- `Bounced::path` takes out the path that each of an answer's cases carries.
-use Rattle.std.proofs.Common.{rules}
 use Rattle.path.specs.Answer.{outcome, path_of}
 use Rattle.path.proofs.records.Bounced.path.Goals as goal
 

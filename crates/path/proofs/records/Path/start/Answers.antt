@@ -1,6 +1,5 @@
 -- `path::records::Path::start` meets its contract: the calls give what their contracts promise, and the definition is read in the same order.
 use lib.Ieee.{of_bits}
-use Rattle.std.proofs.Common.{rules}
 use Rattle.numbers.specs.Refusal.{number, refuse, ◌▷◌}
 use Rattle.path.specs.Answer.{started}
 use Rattle.path.specs.Path.{start, ones}
