@@ -1,5 +1,5 @@
--- What the stages of a call give is what its definition says, as laws of plain values: what is put in or taken out of every column at one place is put in or taken out of the list (`insert-columns`, `remove-columns`),
--- and memory then holds the list that the call leaves (`arrival-leaves`, `departure-leaves`).
+-- What the stages of a call give is what its definition says, as laws of plain values: what is put in or taken out of every column at one place is put in or taken out of the list (`insert_columns`, `remove_columns`),
+-- and memory then holds the list that the call leaves (`arrival_leaves`, `departure_leaves`).
 use Prim.Native.Nat.{ℕ, suc, ◌+◌, ◌-◌, ◌≤◌, ◌<◌, min}
 use native.Mathlib.Omega.{arith}
 use mathlib.Core.Path.{◌≡◌, refl, sym, ap, ◌∙◌}
@@ -15,7 +15,7 @@ use Rattle.candidates.specs.Lists.{first_where, insert_at, remove_at, over}
 use Rattle.candidates.specs.Candidate.{Candidate, goes_before, is_id, has_id}
 use Rattle.candidates.specs.Memory.{Memory, memory, rows, Sized, listed, column_over, holding, Call, arrival, departure, check, insert, remove, changed, answer, unless_refused, left, Written}
 use Rattle.candidates.proofs.Lists.{length-insert, length-remove, map-insert, map-remove, first_map}
-use Rattle.candidates.proofs.Ids.{among-found, among-missed}
+use Rattle.candidates.proofs.Ids.{among_found, among_missed}
 use Rattle.candidates.proofs.Passed.{passed}
 use Rattle.candidates.proofs.Rows.{ids_of-rows, densities_of-rows, length-rows, take-map}
 
@@ -50,23 +50,23 @@ module _ (ids : List ℕ) (ds : List Float) (n : ℕ) (as_long : length ids ≡ 
   abbrev first : List Candidate
   first = take n (rows ids ds)
 
-  ids-of : map (λ c. c.id) first ≡ take n ids
-  ids-of = take-map (λ c. c.id) n (rows ids ds) ∙ ap (take n) (ids_of-rows ids ds as_long)
+  ids_of : map (λ c. c.id) first ≡ take n ids
+  ids_of = take-map (λ c. c.id) n (rows ids ds) ∙ ap (take n) (ids_of-rows ids ds as_long)
 
-  densities-of : map (λ c. c.density) first ≡ take n ds
-  densities-of = take-map (λ c. c.density) n (rows ids ds) ∙ ap (take n) (densities_of-rows ids ds as_long)
+  densities_of : map (λ c. c.density) first ≡ take n ds
+  densities_of = take-map (λ c. c.density) n (rows ids ds) ∙ ap (take n) (densities_of-rows ids ds as_long)
 
-  pub insert-columns : (c : Candidate) (at : ℕ) → at ≡ first_where (goes_before c) first
+  pub insert_columns : (c : Candidate) (at : ℕ) → at ≡ first_where (goes_before c) first
       → Written (insert c first) ids ds (over (insert_at at c.id (take n ids)) ids) (over (insert_at at c.density (take n ds)) ds)
-  insert-columns c at e =
+  insert_columns c at e =
       let f = insert_is c first ∙ ap (λ (i : ℕ). insert_at i c first) (sym e) in (
-        rw (f, map-insert (λ c. c.id) at c first, ids-of),
-        rw (f, map-insert (λ c. c.density) at c first, densities-of),
+        rw (f, map-insert (λ c. c.id) at c first, ids_of),
+        rw (f, map-insert (λ c. c.density) at c first, densities_of),
       )
 
-  pub remove-columns : (at : ℕ) → Written (remove_at at first) ids ds (over (remove_at at (take n ids)) ids) (over (remove_at at (take n ds)) ds)
-  remove-columns at =
-      (rw (map-remove (λ c. c.id) at first, ids-of), rw (map-remove (λ c. c.density) at first, densities-of))
+  pub remove_columns : (at : ℕ) → Written (remove_at at first) ids ds (over (remove_at at (take n ids)) ids) (over (remove_at at (take n ds)) ds)
+  remove_columns at =
+      (rw (map-remove (λ c. c.id) at first, ids_of), rw (map-remove (λ c. c.density) at first, densities_of))
 
 -- ---- what a refusal leaves, and an accepted call
 pub refused_leaves : (m : Memory) (call : Call) (k : ℕ) → rejected k ≡ answer m call → m ≡ left m call
@@ -101,14 +101,14 @@ module _ (n k : ℕ) (ids : List ℕ) (id : ℕ) (is : n ≡ min k 64) (e : leng
   departs h =
       let l = length-take n ids in
       let f : place < length (take n ids) = omega arith in
-      rw (← looked_at n k ids is e, among-found id (take n ids) f)
+      rw (← looked_at n k ids is e, among_found id (take n ids) f)
 
-  pub departs-not : n ≤ place → rejected 12 ≡ check (take k ids) (departure id)
+  pub departs_not : n ≤ place → rejected 12 ≡ check (take k ids) (departure id)
   unfolding check refuse
-  departs-not h =
+  departs_not h =
       let l = length-take n ids in
       let f : length (take n ids) ≤ place = omega arith in
-      rw (← looked_at n k ids is e, among-missed id (take n ids) f)
+      rw (← looked_at n k ids is e, among_missed id (take n ids) f)
 
 module _ (m : Memory) (s : Sized m) (n : ℕ) (is : n ≡ min m.count 64) where
   abbrev all : List Candidate
@@ -124,22 +124,22 @@ module _ (m : Memory) (s : Sized m) (n : ℕ) (is : n ≡ min m.count 64) where
   length-n : length (take n all) ≡ n
   length-n = let a = length-take n all in let b = length_all in omega arith
 
-  pub arrival-leaves : (c : Candidate) → accepted ≡ answer m (arrival c)
+  pub arrival_leaves : (c : Candidate) → accepted ≡ answer m (arrival c)
       → let cs = insert c (take n all) in memory (n + 1) (column_over (λ c. c.id) cs m.ids) (column_over (λ c. c.density) cs m.densities) ≡ left m (arrival c)
   unfolding holding changed
-  arrival-leaves c ok =
+  arrival_leaves c ok =
       let at = first_where (goes_before c) (take n all) in
       let l = length-insert at c (take n all) in
       let k = ap length (insert_is c (take n all)) in
       let h : n + 1 ≡ length (insert c (take n all)) = let a = length-n in omega arith in
       rw (← accepted_leaves m (arrival c) ok, listed-n, h)
 
-  pub departure-leaves : (id at : ℕ) → at ≡ first_where (is_id id) (take n m.ids) → at < n → accepted ≡ answer m (departure id)
+  pub departure_leaves : (id at : ℕ) → at ≡ first_where (is_id id) (take n m.ids) → at < n → accepted ≡ answer m (departure id)
       → let cs = remove_at at (take n all) in memory (n - 1) (column_over (λ c. c.id) cs m.ids) (column_over (λ c. c.density) cs m.densities) ≡ left m (departure id)
   unfolding holding changed
-  departure-leaves id at e r ok =
+  departure_leaves id at e r ok =
       let f : at ≡ first_where (has_id id) (take n all) =
-      e ∙ ap (first_where (is_id id)) (sym (ids-of m.ids m.densities n (s.ids ∙ sym s.densities))) ∙ by_id id (take n all) in
+      e ∙ ap (first_where (is_id id)) (sym (ids_of m.ids m.densities n (s.ids ∙ sym s.densities))) ∙ by_id id (take n all) in
       let k = length-n in
       let l = length-remove at (take n all) (omega arith) in
       let h : n - 1 ≡ length (remove_at at (take n all)) = omega arith in

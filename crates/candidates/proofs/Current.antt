@@ -14,7 +14,7 @@ use Rattle.candidates.specs.Current.{Present, settle, others, accept, after, Eve
 use Rattle.candidates.proofs.Rows.{listed-ids, listed-laid, listed-holding, count-holding, sized-holding}
 use Rattle.candidates.proofs.Passed.{passed}
 use Rattle.candidates.proofs.Order.{ready}
-use Rattle.candidates.proofs.Sorted.{every-both, length-perm, every-perm, pairwise-perm, length_part, every-part, pairwise-part}
+use Rattle.candidates.proofs.Sorted.{every_both, length-perm, every-perm, pairwise-perm, length_part, every-part, pairwise-part}
 use Rattle.candidates.proofs.Present.{candidates, ids, Before, Unlike, check_perm, none_among, Known, put_in, perm-others, part-others, taken_out}
 
 -- ---- between calls: n were made, ps is who is present, cs the list
@@ -40,7 +40,7 @@ module _ (n : ℕ) (cs : List Candidate) (ps : List Present) (g : Good n cs ps) 
   -- one call later
   known_on : Every (Known (suc n)) ps
   known_on =
-      every-both (Known n) (Known n) (Known (suc n))
+      every_both (Known n) (Known n) (Known (suc n))
       (λ p k l. let h = k.early in record { ready = k.ready; early = omega arith }) ps g.known g.known
 
   -- a refused call
@@ -170,6 +170,6 @@ started m e =
           };
     }
 
-pub kept-current : KeptCurrent
+pub kept_current : KeptCurrent
 unfolding KeptCurrent
-kept-current m e calls f = throughout 0 m [] (started m e) calls f
+kept_current m e calls f = throughout 0 m [] (started m e) calls f

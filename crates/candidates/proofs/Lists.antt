@@ -11,17 +11,17 @@ use Rattle.candidates.specs.Lists.{first_where, insert_at, remove_at, over}
 
 -- ---- a search
 module _ {A : Type 0} (p : A → Bool) where
-  first-le : (xs : List A) → first_where p xs ≤ length xs
+  first_le : (xs : List A) → first_where p xs ≤ length xs
   unfolding first_where
-  first-le [] = omega arith
-  first-le (x ∷ xs) = go (p x) (first-le xs)
+  first_le [] = omega arith
+  first_le (x ∷ xs) = go (p x) (first_le xs)
     where
       go : (b : Bool) → first_where p xs ≤ length xs → cond b 0 (suc (first_where p xs)) ≤ suc (length xs)
       go true h = omega arith
       go false h = omega arith
 
-  pub first-within : (n : ℕ) (xs : List A) → first_where p (take n xs) ≤ n
-  first-within n xs = let h = first-le (take n xs) in let l = length-take n xs in omega arith
+  pub first_within : (n : ℕ) (xs : List A) → first_where p (take n xs) ≤ n
+  first_within n xs = let h = first_le (take n xs) in let l = length-take n xs in omega arith
 
   -- its loop through the first n of xs, at i: those passed failed the test
   pub record Searching (n : ℕ) (xs : List A) (i : ℕ) : Type 0 where
@@ -29,8 +29,8 @@ module _ {A : Type 0} (p : A → Bool) where
     pub size : n ≤ length xs
     pub passed : i + first_where p (drop i (take n xs)) ≡ first_where p (take n xs)
 
-  pub searching-starts : (n : ℕ) (xs : List A) → n ≤ length xs → Searching n xs 0
-  searching-starts n xs h = record { to = omega arith; size = h; passed = omega arith }
+  pub searching_starts : (n : ℕ) (xs : List A) → n ≤ length xs → Searching n xs 0
+  searching_starts n xs h = record { to = omega arith; size = h; passed = omega arith }
 
   -- what the loop looks at
   searched : (n : ℕ) (xs : List A) (d : A) (i : ℕ) → Searching n xs i → i < n → (b : Bool) → p (get_or xs i d) ≡ b
@@ -42,18 +42,18 @@ module _ {A : Type 0} (p : A → Bool) where
       let k : i < length (take n xs) = omega arith in
       rw (drop-cons (take n xs) i d k, get_or-take n xs i d h, t)
 
-  pub searching-found : (n : ℕ) (xs : List A) (d : A) (i : ℕ) → Searching n xs i → i < n → p (get_or xs i d) ≡ true → i ≡ first_where p (take n xs)
-  searching-found n xs d i l h t = let z = searched n xs d i l h true t in let e = l.passed in omega arith
+  pub searching_found : (n : ℕ) (xs : List A) (d : A) (i : ℕ) → Searching n xs i → i < n → p (get_or xs i d) ≡ true → i ≡ first_where p (take n xs)
+  searching_found n xs d i l h t = let z = searched n xs d i l h true t in let e = l.passed in omega arith
 
-  pub searching-next : (n : ℕ) (xs : List A) (d : A) (i : ℕ) → Searching n xs i → i < n → p (get_or xs i d) ≡ false → Searching n xs (i + 1)
-  searching-next n xs d i l h t =
+  pub searching_next : (n : ℕ) (xs : List A) (d : A) (i : ℕ) → Searching n xs i → i < n → p (get_or xs i d) ≡ false → Searching n xs (i + 1)
+  searching_next n xs d i l h t =
       let z = searched n xs d i l h false t in
       let e = l.passed in
       record { to = omega arith; size = l.size; passed = rw add-one (omega arith) }
 
-  pub searching-ends : (n : ℕ) (xs : List A) (i : ℕ) → Searching n xs i → n ≤ i → n ≡ first_where p (take n xs)
+  pub searching_ends : (n : ℕ) (xs : List A) (i : ℕ) → Searching n xs i → n ≤ i → n ≡ first_where p (take n xs)
   unfolding first_where
-  searching-ends n xs i l h =
+  searching_ends n xs i l h =
       let m = length-take n xs in
       let k : length (take n xs) ≤ i = omega arith in
       let z : first_where p (drop i (take n xs)) ≡ 0 = ap (first_where p) (drop_of_length-le (take n xs) k) in
@@ -80,19 +80,19 @@ module _ {A : Type 0} where
   length-remove (suc i) (y ∷ ys) h = ap suc (length-remove i ys (omega arith))
 
   -- into the front, or out of it
-  insert-front : (i k : ℕ) (x : A) (xs : List A) → i ≤ k → take (suc k) (insert_at i x xs) ≡ insert_at i x (take k xs)
+  insert_front : (i k : ℕ) (x : A) (xs : List A) → i ≤ k → take (suc k) (insert_at i x xs) ≡ insert_at i x (take k xs)
   unfolding insert_at
-  insert-front zero k x xs h = refl
-  insert-front (suc i) zero x xs h = absurd (omega arith)
-  insert-front (suc i) (suc k) x [] h = refl
-  insert-front (suc i) (suc k) x (y ∷ ys) h = ap (λ (l : List A). y ∷ l) (insert-front i k x ys (omega arith))
+  insert_front zero k x xs h = refl
+  insert_front (suc i) zero x xs h = absurd (omega arith)
+  insert_front (suc i) (suc k) x [] h = refl
+  insert_front (suc i) (suc k) x (y ∷ ys) h = ap (λ (l : List A). y ∷ l) (insert_front i k x ys (omega arith))
 
-  remove-front : (i k : ℕ) (xs : List A) → i ≤ k → k < length xs → take k (remove_at i xs) ≡ remove_at i (take (suc k) xs)
+  remove_front : (i k : ℕ) (xs : List A) → i ≤ k → k < length xs → take k (remove_at i xs) ≡ remove_at i (take (suc k) xs)
   unfolding remove_at
-  remove-front i k [] h l = absurd (omega arith)
-  remove-front zero k (y ∷ ys) h l = refl
-  remove-front (suc i) zero (y ∷ ys) h l = absurd (omega arith)
-  remove-front (suc i) (suc k) (y ∷ ys) h l = ap (λ (l : List A). y ∷ l) (remove-front i k ys (omega arith) (omega arith))
+  remove_front i k [] h l = absurd (omega arith)
+  remove_front zero k (y ∷ ys) h l = refl
+  remove_front (suc i) zero (y ∷ ys) h l = absurd (omega arith)
+  remove_front (suc i) (suc k) (y ∷ ys) h l = ap (λ (l : List A). y ∷ l) (remove_front i k ys (omega arith) (omega arith))
 
 pub map-insert : {A B : Type 0} (f : A → B) (i : ℕ) (x : A) (xs : List A) → map f (insert_at i x xs) ≡ insert_at i (f x) (map f xs)
 unfolding insert_at
@@ -134,18 +134,18 @@ module _ {A : Type 0} (d : A) where
   insert-start (suc at) x [] h = absurd (omega arith)
   insert-start (suc at) x (y ∷ s) h = ap (λ (l : List A). y ∷ l) (insert-start at x s (omega arith))
 
-  pub insert-here : (at : ℕ) (x : A) (s : List A) → at ≤ length s → x ≡ get_or (insert_at at x s) at d
+  pub insert_here : (at : ℕ) (x : A) (s : List A) → at ≤ length s → x ≡ get_or (insert_at at x s) at d
   unfolding insert_at
-  insert-here zero x s h = refl
-  insert-here (suc at) x [] h = absurd (omega arith)
-  insert-here (suc at) x (y ∷ s) h = insert-here at x s (omega arith)
+  insert_here zero x s h = refl
+  insert_here (suc at) x [] h = absurd (omega arith)
+  insert_here (suc at) x (y ∷ s) h = insert_here at x s (omega arith)
 
-  insert-later : (at i : ℕ) (x : A) (s : List A) → at ≤ i → get_or s i d ≡ get_or (insert_at at x s) (suc i) d
+  insert_later : (at i : ℕ) (x : A) (s : List A) → at ≤ i → get_or s i d ≡ get_or (insert_at at x s) (suc i) d
   unfolding insert_at
-  insert-later zero i x s h = refl
-  insert-later (suc at) zero x s h = absurd (omega arith)
-  insert-later (suc at) (suc i) x [] h = refl
-  insert-later (suc at) (suc i) x (y ∷ s) h = insert-later at i x s (omega arith)
+  insert_later zero i x s h = refl
+  insert_later (suc at) zero x s h = absurd (omega arith)
+  insert_later (suc at) (suc i) x [] h = refl
+  insert_later (suc at) (suc i) x (y ∷ s) h = insert_later at i x s (omega arith)
 
   -- its loop at i: what it holds, and what it is to write next
   pub record Putting (at n : ℕ) (x : A) (s out : List A) (next : A) (i : ℕ) : Type 0 where
@@ -156,20 +156,20 @@ module _ {A : Type 0} (d : A) where
     pub holds : out ≡ mixed (insert_at at x s) s i
     pub carries : next ≡ get_or (insert_at at x s) i d
 
-  pub putting-starts : (at n : ℕ) (x : A) (s : List A) → at ≤ n → n < length s → Putting at n x s s x at
-  putting-starts at n x s h k =
+  pub putting_starts : (at n : ℕ) (x : A) (s : List A) → at ≤ n → n < length s → Putting at n x s s x at
+  putting_starts at n x s h k =
       record {
         from = omega arith;
         to = omega arith;
         size = k;
         long = refl;
         holds = insert-start at x s (omega arith);
-        carries = insert-here at x s (omega arith);
+        carries = insert_here at x s (omega arith);
       }
 
-  pub putting-next : (at n : ℕ) (x : A) (s out : List A) (next : A) (i : ℕ) → Putting at n x s out next i → i ≤ n
+  pub putting_next : (at n : ℕ) (x : A) (s out : List A) (next : A) (i : ℕ) → Putting at n x s out next i → i ≤ n
       → Putting at n x s (set out i next) (get_or out i d) (i + 1)
-  putting-next at n x s out next i l h =
+  putting_next at n x s out next i l h =
       let t = insert_at at x s in
       let m = length-insert at x s in
       record {
@@ -178,19 +178,19 @@ module _ {A : Type 0} (d : A) where
         size = l.size;
         long = length-set out i next ∙ l.long;
         holds = rw (l.holds, l.carries, add-one) (mixed-set t s i (omega arith) (omega arith));
-        carries = rw (l.holds, add-one) (mixed-get t s i i (omega arith) (omega arith) (omega arith) ∙ insert-later at i x s l.from);
+        carries = rw (l.holds, add-one) (mixed-get t s i i (omega arith) (omega arith) (omega arith) ∙ insert_later at i x s l.from);
       }
 
-  pub putting-ends : (at n : ℕ) (x : A) (s out : List A) (next : A) (i : ℕ) → at ≤ n → Putting at n x s out next i → n < i
+  pub putting_ends : (at n : ℕ) (x : A) (s out : List A) (next : A) (i : ℕ) → at ≤ n → Putting at n x s out next i → n < i
       → out ≡ over (insert_at at x (take n s)) s
   unfolding mixed over
-  putting-ends at n x s out next i a l h =
+  putting_ends at n x s out next i a l h =
       let k = length-insert at x (take n s) in
       let m = length-take n s in
       let z = l.size in
       let e : i ≡ length (insert_at at x (take n s)) = omega arith in
       let f : i ≡ suc n = omega arith in
-      l.holds ∙ rw (← e, f, insert-front at n x s a)
+      l.holds ∙ rw (← e, f, insert_front at n x s a)
 
   -- ---- one taken out
   pub remove-start : (at : ℕ) (s : List A) → at < length s → s ≡ mixed (remove_at at s) s at
@@ -199,12 +199,12 @@ module _ {A : Type 0} (d : A) where
   remove-start (suc at) [] h = absurd (omega arith)
   remove-start (suc at) (y ∷ s) h = ap (λ (l : List A). y ∷ l) (remove-start at s (omega arith))
 
-  remove-later : (at i : ℕ) (s : List A) → at ≤ i → suc i < length s → get_or s (suc i) d ≡ get_or (remove_at at s) i d
+  remove_later : (at i : ℕ) (s : List A) → at ≤ i → suc i < length s → get_or s (suc i) d ≡ get_or (remove_at at s) i d
   unfolding remove_at
-  remove-later at i [] h k = absurd (omega arith)
-  remove-later zero i (y ∷ s) h k = refl
-  remove-later (suc at) zero (y ∷ s) h k = absurd (omega arith)
-  remove-later (suc at) (suc i) (y ∷ s) h k = remove-later at i s (omega arith) (omega arith)
+  remove_later at i [] h k = absurd (omega arith)
+  remove_later zero i (y ∷ s) h k = refl
+  remove_later (suc at) zero (y ∷ s) h k = absurd (omega arith)
+  remove_later (suc at) (suc i) (y ∷ s) h k = remove_later at i s (omega arith) (omega arith)
 
   -- its loop through the first n, at i: what it holds
   pub record Taking (at n : ℕ) (s out : List A) (i : ℕ) : Type 0 where
@@ -214,16 +214,16 @@ module _ {A : Type 0} (d : A) where
     pub long : length out ≡ length s
     pub holds : out ≡ mixed (remove_at at s) s i
 
-  pub taking-starts : (at n : ℕ) (s : List A) → at < n → n ≤ length s → Taking at n s s at
-  taking-starts at n s h k = record { from = omega arith; to = h; size = k; long = refl; holds = remove-start at s (omega arith) }
+  pub taking_starts : (at n : ℕ) (s : List A) → at < n → n ≤ length s → Taking at n s s at
+  taking_starts at n s h k = record { from = omega arith; to = h; size = k; long = refl; holds = remove-start at s (omega arith) }
 
-  pub taking-next : (at n : ℕ) (s out : List A) (i : ℕ) → Taking at n s out i → i + 1 < n → Taking at n s (set out i (get_or out (i + 1) d)) (i + 1)
-  taking-next at n s out i l h =
+  pub taking_next : (at n : ℕ) (s out : List A) (i : ℕ) → Taking at n s out i → i + 1 < n → Taking at n s (set out i (get_or out (i + 1) d)) (i + 1)
+  taking_next at n s out i l h =
       let t = remove_at at s in
       let z = l.size in
       let m = length-remove at s (omega arith) in
       let g : get_or (mixed t s i) (suc i) d ≡ get_or t i d =
-      mixed-get t s i (suc i) (omega arith) (omega arith) (omega arith) ∙ remove-later at i s l.from (omega arith) in
+      mixed-get t s i (suc i) (omega arith) (omega arith) (omega arith) ∙ remove_later at i s l.from (omega arith) in
       record {
         from = omega arith;
         to = omega arith;
@@ -232,12 +232,12 @@ module _ {A : Type 0} (d : A) where
         holds = rw (l.holds, add-one, g) (mixed-set t s i (omega arith) (omega arith));
       }
 
-  pub taking-ends : (at n : ℕ) (s out : List A) (i : ℕ) → Taking at n s out i → n ≤ i + 1 → out ≡ over (remove_at at (take n s)) s
+  pub taking_ends : (at n : ℕ) (s out : List A) (i : ℕ) → Taking at n s out i → n ≤ i + 1 → out ≡ over (remove_at at (take n s)) s
   unfolding mixed over
-  taking-ends at n s out i l h =
+  taking_ends at n s out i l h =
       let z = l.size in
       let m = length-take n s in
       let k = length-remove at (take n s) (omega arith) in
       let e : i ≡ length (remove_at at (take n s)) = omega arith in
       let f : n ≡ suc i = omega arith in
-      l.holds ∙ rw (← e, f, remove-front at i s l.from (omega arith))
+      l.holds ∙ rw (← e, f, remove_front at i s l.from (omega arith))

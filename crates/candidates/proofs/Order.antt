@@ -6,9 +6,9 @@ use lib.Dec.{T}
 use lib.Ieee.{le}
 use lib.Ieee.Fits.{and_l}
 use Rattle.floats.specs.Float.{f0, is_finite}
-use Rattle.floats.proofs.Rounding.Order.{Finite, lt-asym, lt-cotrans}
+use Rattle.floats.proofs.Rounding.Order.{Finite, lt_asym, lt_cotrans}
 use Rattle.numbers.specs.Refusal.{accepted}
-use Rattle.numbers.proofs.refusal.Checks.{test-passed}
+use Rattle.numbers.proofs.refusal.Checks.{test_passed}
 use Rattle.candidates.specs.Candidate.{Candidate, is_density, check_candidate, goes_before, CandidateF64}
 
 -- what an accepted candidate has
@@ -22,14 +22,14 @@ ready c f e =
       density =
           record {
             fits_x = f;
-            finite_x = and_l (is_finite c.density) (le f0 c.density) (test-passed 9 (is_density c.density) e);
+            finite_x = and_l (is_finite c.density) (le f0 c.density) (test_passed 9 (is_density c.density) e);
           };
     }
 
 pub asym : (a b : Candidate) → Ready a → Ready b → T (goes_before a b) → T (goes_before b a) → ⊥
 unfolding goes_before
-asym a b f g = lt-asym b.density a.density g.density f.density
+asym a b f g = lt_asym b.density a.density g.density f.density
 
 pub cotrans : (a b c : Candidate) → Ready a → Ready b → Ready c → T (goes_before a b) → (T (goes_before c b) → ⊥) → T (goes_before a c)
 unfolding goes_before
-cotrans a b c f g h = lt-cotrans a.density b.density c.density f.density g.density h.density
+cotrans a b c f g h = lt_cotrans a.density b.density c.density f.density g.density h.density

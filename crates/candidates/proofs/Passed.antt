@@ -6,7 +6,7 @@ use mathlib.Core.List.{List}
 use lib.Dec.{T, ltb, T_not, ltb→lt}
 use lib.ListN.{length}
 use Rattle.numbers.specs.Refusal.{accepted, refuse, ◌then◌}
-use Rattle.numbers.proofs.refusal.Checks.{test-passed, first_passed, next_passed}
+use Rattle.numbers.proofs.refusal.Checks.{test_passed, first_passed, next_passed}
 use Rattle.candidates.specs.Candidate.{Candidate, check_candidate}
 use Rattle.candidates.specs.Memory.{arrival, is_among, check}
 
@@ -23,8 +23,8 @@ passed ids c ok =
     let two = first_passed (check_candidate c then room) id ok in
     record {
       alone = first_passed (check_candidate c) room two;
-      room = ltb→lt (length ids) 64 (test-passed 11 (ltb (length ids) 64) (next_passed (check_candidate c) room two));
+      room = ltb→lt (length ids) 64 (test_passed 11 (ltb (length ids) 64) (next_passed (check_candidate c) room two));
       none =
           T_not (is_among c.id ids)
-          (test-passed 12 (not (is_among c.id ids)) (next_passed (check_candidate c then room) id ok));
+          (test_passed 12 (not (is_among c.id ids)) (next_passed (check_candidate c then room) id ok));
     }

@@ -13,7 +13,7 @@ use Rattle.candidates.specs.Candidate.{is_id, Candidate, goes_before, has_id}
 use Rattle.candidates.specs.Memory.{Call, arrival, departure, is_among, check, insert, remove}
 use Rattle.candidates.specs.Current.{Present, others, before, Every, Pairwise}
 use Rattle.candidates.proofs.Order.{Ready, asym, cotrans}
-use Rattle.candidates.proofs.Sorted.{every-both, length-perm, every-perm}
+use Rattle.candidates.proofs.Sorted.{every_both, length-perm, every-perm}
 
 abbrev pub candidates : List Present → List Candidate
 candidates ps = map (λ p. p.candidate) ps
@@ -85,9 +85,9 @@ module _ (c : Candidate) (n : ℕ) (r : Ready c) where
   ahead y t = either (goes_before c y.candidate) (not (goes_before y.candidate c) && ltb n y.call) (inl t)
 
   -- c goes before what stands behind one that it goes before
-  ahead-on : (y z : Present) → Known n y → T (goes_before c y.candidate) → Known n z → Before y z → Before new z
+  ahead_on : (y z : Present) → Known n y → T (goes_before c y.candidate) → Known n z → Before y z → Before new z
   unfolding before
-  ahead-on y z k t l b =
+  ahead_on y z k t l b =
       let g = goes_before y.candidate z.candidate in
       let h = goes_before z.candidate y.candidate in
       ahead z (cotrans c y.candidate z.candidate r k.ready l.ready t
@@ -111,7 +111,7 @@ module _ (c : Candidate) (n : ℕ) (r : Ready c) where
           record {
             order = new ∷ y ∷ ys;
             present = Permᴰ.refl (new ∷ y ∷ ys);
-            sorted = ((ahead y t, every-both (Known n) (Before y) (Before new) (λ z. ahead-on y z k.0 t) ys k.1 s.0), s);
+            sorted = ((ahead y t, every_both (Known n) (Before y) (Before new) (λ z. ahead_on y z k.0 t) ys k.1 s.0), s);
             listed = rw e;
           }
       go false e p =

@@ -9,10 +9,10 @@ use lib.ListN.{length}
 use Rattle.candidates.specs.Current.{Every, Pairwise}
 
 module _ {A : Type 0} where
-  pub every-both : (P Q R : A → Type 0) → ((x : A) → P x → Q x → R x) → (xs : List A) → Every P xs → Every Q xs → Every R xs
+  pub every_both : (P Q R : A → Type 0) → ((x : A) → P x → Q x → R x) → (xs : List A) → Every P xs → Every Q xs → Every R xs
   unfolding Every
-  every-both P Q R f [] a b = tt
-  every-both P Q R f (x ∷ xs) a b = (f x a.0 b.0, every-both P Q R f xs a.1 b.1)
+  every_both P Q R f [] a b = tt
+  every_both P Q R f (x ∷ xs) a b = (f x a.0 b.0, every_both P Q R f xs a.1 b.1)
 
   -- ---- a permutation of the list
   pub length-perm : {xs ys : List A} → Permᴰ xs ys → length xs ≡ length ys

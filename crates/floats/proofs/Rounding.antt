@@ -1,8 +1,8 @@
 -- A fraction n / c rounded to a number of p leading binary digits, over ℕ alone. `rnd p n c`
 -- is that number: `round` of the kit makes a float of it.
 -- Proved: rounding keeps the order (`rnd-mono`), gives the same for equal fractions
--- (`rnd_same`), leaves a number of at most p digits alone (`rnd-fix`, `rnd_idem`),
--- and is off by half a unit of the last digit at most (`rnd-err`), so by n / 2 ^ p
+-- (`rnd_same`), leaves a number of at most p digits alone (`rnd_fix`, `rnd_idem`),
+-- and is off by half a unit of the last digit at most (`rnd_err`), so by n / 2 ^ p
 -- where all p digits are in use (`rnd_rel`, `rnd_all`, `rnd_whole`).
 -- All of it rests on two facts of `closest`, the nearest whole number: it keeps the order, and it is the number itself at a whole one.
 -- Below it: values in units, the order and the operations by units, errors, and bounds computed for whole expressions, in the order in which they build on each other.
@@ -49,15 +49,15 @@ size_above n z h =
     elim (below_or_from z (size n)) [ inl l ↦ l | inr g ↦ absurd (lt_irrefl n (lt_of_lt_of_le (size-lt n) (le_trans (pow_mono g) h))) ]
 
 -- ---- the nearest whole number to a / b: a half away at most, and the number itself where b divides a
-nearest-err : (o : Ordering) (a b q r : ℕ) → q * b + r ≡ a → (T (is_le o) → r * 2 ≤ b) → (T (not (is_le o)) → b < r * 2)
+nearest_err : (o : Ordering) (a b q r : ℕ) → q * b + r ≡ a → (T (is_le o) → r * 2 ≤ b) → (T (not (is_le o)) → b < r * 2)
     → (T (compare_is_eq o) → r * 2 ≡ b) → r < b → Near (2 * (nearest q o * b)) (2 * a) b
-nearest-err Ordering.lt a b q r e f g s l = let h = f tt in omega arith
-nearest-err Ordering.eq a b q r e f g s l = let h = s tt in let d : q % 2 ≤ 1 = omega arith in omega (arith, mul-le-mul_right b d)
-nearest-err Ordering.gt a b q r e f g s l = let h = g tt in omega arith
+nearest_err Ordering.lt a b q r e f g s l = let h = f tt in omega arith
+nearest_err Ordering.eq a b q r e f g s l = let h = s tt in let d : q % 2 ≤ 1 = omega arith in omega (arith, mul-le-mul_right b d)
+nearest_err Ordering.gt a b q r e f g s l = let h = g tt in omega arith
 
 pub closest_err : (a b : ℕ) → 0 < b → Near (2 * (closest a b * b)) (2 * a) b
 closest_err a b B =
-    nearest-err (compare (a % b * 2) b) a b (a / b) (a % b) (div-add-mod' a b) (leb→le (a % b * 2) b) (nleb→lt (a % b * 2) b)
+    nearest_err (compare (a % b * 2) b) a b (a / b) (a % b) (div-add-mod' a b) (leb→le (a % b * 2) b) (nleb→lt (a % b * 2) b)
     (eqb→eq (a % b * 2) b) (mod-lt a B)
 
 closest_at : (g u : ℕ) → 0 < u → closest (g * u) u ≡ g
@@ -84,19 +84,19 @@ kept_top p n c C =
     let b = ap (λ (x : ℕ). x * c) (pow-add 2 p k) in
     closest_le n (c * 2 ^ k) (2 ^ p) (mul-pos C (pow_pos k)) (omega arith)
 
-drop-reaches : (p n c : ℕ) → 0 < p → 0 < c → 0 < drop p n c → 2 ^ (p - 1) * 2 ^ drop p n c * c ≤ n
-drop-reaches p n c P C K =
+drop_reaches : (p n c : ℕ) → 0 < p → 0 < c → 0 < drop p n c → 2 ^ (p - 1) * 2 ^ drop p n c * c ≤ n
+drop_reaches p n c P C K =
     let k = drop p n c in
     let l : p - 1 + k < size (n / c) = omega arith in
     le_trans (le_of_eq (ap (λ (x : ℕ). x * c) (sym (pow-add 2 (p - 1) k)))) ((le-div_iff_mul-le C).0 (size_reaches (n / c) (p - 1 + k) l))
 
-rnd-top : (p n c : ℕ) → 0 < c → rnd p n c ≤ 2 ^ (p + drop p n c)
-rnd-top p n c C = le_trans (mul-le-mul_right (2 ^ drop p n c) (kept_top p n c C)) (le_of_eq (sym (pow-add 2 p (drop p n c))))
+rnd_top : (p n c : ℕ) → 0 < c → rnd p n c ≤ 2 ^ (p + drop p n c)
+rnd_top p n c C = le_trans (mul-le-mul_right (2 ^ drop p n c) (kept_top p n c C)) (le_of_eq (sym (pow-add 2 p (drop p n c))))
 
 rnd_bottom : (p n c : ℕ) → 0 < p → 0 < c → 0 < drop p n c → 2 ^ (p - 1 + drop p n c) ≤ rnd p n c
 rnd_bottom p n c P C K =
     let k = drop p n c in
-    let a = drop-reaches p n c P C K in
+    let a = drop_reaches p n c P C K in
     let b = closest_ge n (c * 2 ^ k) (2 ^ (p - 1)) (mul-pos C (pow_pos k)) (omega arith) in
     rw (pow-add 2 (p - 1) k) (mul-le-mul_right (2 ^ k) b)
 
@@ -118,14 +118,14 @@ rnd-mono p a b c d P B D h = go (eq-or-lt_of_le (drop-mono p a b c d B D h))
     go (inr l) =
         let s : 0 < drop p c d = omega arith in
         let w : p + drop p a b ≤ p - 1 + drop p c d = omega arith in
-        le_trans (rnd-top p a b B) (le_trans (pow_mono w) (rnd_bottom p c d P D s))
+        le_trans (rnd_top p a b B) (le_trans (pow_mono w) (rnd_bottom p c d P D s))
 
 pub rnd_same : (p a b c d : ℕ) → 0 < p → 0 < b → 0 < d → a * d ≡ c * b → rnd p a b ≡ rnd p c d
 rnd_same p a b c d P B D e = le_antisymm (rnd-mono p a b c d P B D (le_of_eq e)) (rnd-mono p c d a b P D B (le_of_eq (sym e)))
 
 -- ---- the error of `rnd`: half a unit in the last place
-pub rnd-err : (p n c : ℕ) → 0 < c → Near (2 * (rnd p n c * c)) (2 * n) (c * 2 ^ drop p n c)
-rnd-err p n c C = let k = drop p n c in let h = closest_err n (c * 2 ^ k) (mul-pos C (pow_pos k)) in (omega arith, omega arith)
+pub rnd_err : (p n c : ℕ) → 0 < c → Near (2 * (rnd p n c * c)) (2 * n) (c * 2 ^ drop p n c)
+rnd_err p n c C = let k = drop p n c in let h = closest_err n (c * 2 ^ k) (mul-pos C (pow_pos k)) in (omega arith, omega arith)
 
 -- ---- relative to a bound e of n / c and of the first number that has p digits
 scale-near : (w x n d e P : ℕ) → P ≡ 2 * w → Near (2 * x) (2 * n) d → w * d ≤ e → Near (P * x) (P * n) e
@@ -140,7 +140,7 @@ rnd-near : (p n c e : ℕ) → 0 < p → 0 < c → n ≤ e → 2 ^ (p - 1) * c �
 rnd-near p n c e P C N E =
     let one : 1 ≤ p = omega arith in
     scale-near (2 ^ (p - 1)) (rnd p n c * c) n (c * 2 ^ drop p n c) e (2 ^ p) (pow_part p 1 one ∙ mul_comm (2 ^ (p - 1)) 2)
-    (rnd-err p n c C) (step (drop p n c) (eq-zero-or-pos (drop p n c)) (drop-reaches p n c P C))
+    (rnd_err p n c C) (step (drop p n c) (eq-zero-or-pos (drop p n c)) (drop_reaches p n c P C))
   where
     step : (k : ℕ) → (k ≡ 0) ⊎ (0 < k) → (0 < k → 2 ^ (p - 1) * 2 ^ k * c ≤ n) → 2 ^ (p - 1) * (c * 2 ^ k) ≤ e
     step k (inl z) f = subst (λ (x : ℕ). 2 ^ (p - 1) * (c * 2 ^ x) ≤ e) (sym z) (omega arith)
@@ -155,8 +155,8 @@ pub rnd_all : (p n c : ℕ) → 0 < p → 0 < c → Near (2 ^ p * (rnd p n c * c
 rnd_all p n c P C = rnd-near p n c (n + 2 ^ (p - 1) * c) P C (omega arith) (omega arith)
 
 -- ---- whole numbers of units
-pub rnd-fix : (p q j : ℕ) → q < 2 ^ p → rnd p (q * 2 ^ j) 1 ≡ q * 2 ^ j
-rnd-fix p q j Q =
+pub rnd_fix : (p q j : ℕ) → q < 2 ^ p → rnd p (q * 2 ^ j) 1 ≡ q * 2 ^ j
+rnd_fix p q j Q =
     let n = q * 2 ^ j in
     let k = drop p n 1 in
     let u : n / 1 < 2 ^ (p + j) = let s = shl_lt p j Q in omega arith in
@@ -178,7 +178,7 @@ rnd_whole p n P = go (below_or_from n (2 ^ (p - 1)))
     pred-le = omega arith
 
     self : n < 2 ^ p → rnd p n 1 ≡ n
-    self l = ap (λ (x : ℕ). rnd p x 1) (sym (mul-one n)) ∙ rnd-fix p n 0 l ∙ mul-one n
+    self l = ap (λ (x : ℕ). rnd p x 1) (sym (mul-one n)) ∙ rnd_fix p n 0 l ∙ mul-one n
 
     go : (n < 2 ^ (p - 1)) ⊎ (2 ^ (p - 1) ≤ n) → Near (2 ^ p * rnd p n 1) (2 ^ p * n) n
     go (inl l) = let e = ap (λ (x : ℕ). 2 ^ p * x) (self (lt_of_lt_of_le l (pow_mono pred-le))) in omega arith
@@ -190,9 +190,9 @@ pub rnd_idem : (p n c : ℕ) → 0 < p → 0 < c → rnd p (rnd p n c) 1 ≡ rnd
 rnd_idem p n c P C = go (kept p n c) (drop p n c) (eq-or-lt_of_le (kept_top p n c C))
   where
     go : (q k : ℕ) → (q ≡ 2 ^ p) ⊎ (q < 2 ^ p) → rnd p (q * 2 ^ k) 1 ≡ q * 2 ^ k
-    go q k (inr l) = rnd-fix p q k l
+    go q k (inr l) = rnd_fix p q k l
     go q k (inl e) =
         let one : 1 ≤ p = omega arith in
         let up : 1 < 2 ^ p = lt_of_lt_of_le {m = 2 ^ 1} (lit< tt) (pow_mono one) in
         let s : 1 * 2 ^ (p + k) ≡ q * 2 ^ k = let a = pow-add 2 p k in let b = ap (λ (x : ℕ). x * 2 ^ k) e in omega arith in
-        subst (λ (z : ℕ). rnd p z 1 ≡ z) s (rnd-fix p 1 (p + k) up)
+        subst (λ (z : ℕ). rnd p z 1 ≡ z) s (rnd_fix p 1 (p + k) up)

@@ -13,7 +13,7 @@ use lib.Ieee.{Float, nan, inf, fin, Format, binary64, add, mul, div, le, eq, fit
 use lib.Ieee.Fits.{and_l, and_r, and_i, add-fits, cond-fits}
 use Rattle.floats.proofs.Rounding.Units.{U, U_pos, mag, unique}
 use Rattle.floats.proofs.Rounding.NonNegative.{Fine, unit_is, fine_pos}
-use Rattle.floats.proofs.Rounding.Sizes.{f1_upto, f1-parts, fine_N}
+use Rattle.floats.proofs.Rounding.Sizes.{f1_upto, f1_parts, fine_N}
 use Rattle.floats.specs.Float.{◌⊘◌, f0, f1, decimal, within}
 use Rattle.numbers.specs.DenseSpectrum.{step_of, is_table, one_spacing, terminated, entry, interpolate, upper_point, upper_lambda, upper_weight, sample_one_at, every, is_constant, all_within}
 use Rattle.numbers.specs.declared.vec3.Vec3.{Vec3}
@@ -51,7 +51,7 @@ unfolding within
 is_one x f h =
     let low = and_l (le f1 x) (le x f1) h in
     let high = and_r (le f1 x) (le x f1) h in
-    let r = range_of f1 f1 x f1_upto.fin f1_upto.fin f1-parts.1 f1-parts.1 f low high in
+    let r = range_of f1 f1 x f1_upto.fin f1_upto.fin f1_parts.1 f1_parts.1 f low high in
     let size : mag x ≡ U = le_antisymm r.high r.low ∙ one_mag in
     let fine : Fine x U = subst (λ (n : ℕ). Fine x n) size (fine_N x r.fin r.above) in
     unique x f1 false U f f1_upto.fin.1 (fine_pos x U fine U_pos) unit_is

@@ -12,7 +12,7 @@ use lib.Ieee.{Float, nan, inf, fin, Format, binary64, is_nan, neg, add, sub, mul
 use lib.Ieee.Fits.{mul-fits, div-fits, sub-fits}
 use Rattle.floats.proofs.Rounding.Units.{U, U_pos, sign, mag, is_of, is_finite_lem, add_is, sum_is, sub_opens, add-nan}
 use Rattle.floats.proofs.Rounding.NonNegative.{Ext}
-use Rattle.floats.proofs.Rounding.Error.{Fin, N, neg-parts}
+use Rattle.floats.proofs.Rounding.Error.{Fin, N, neg_parts}
 use Rattle.numbers.proofs.dense_spectrum.Interpolation.{Index}
 use Rattle.numbers.proofs.vec3.UnitVector.{sq, sq_ext}
 use Rattle.floats.specs.Float.{◌⊕◌, ◌⊖◌, ◌⊗◌, ◌⊘◌, f0, f1, f2, max, abs}
@@ -64,9 +64,9 @@ first_nan : (e c i : Float) → contrast (e ⊗ c) i ≡ nan → unpolarized e c
 unfolding unpolarized
 first_nan e c i h = ap (λ (p : Float). mean_square p (contrast c (e ⊗ i))) h ∙ mean_from-nan (contrast c (e ⊗ i))
 
-second-nan : (e c i : Float) → contrast c (e ⊗ i) ≡ nan → unpolarized e c i ≡ nan
+second_nan : (e c i : Float) → contrast c (e ⊗ i) ≡ nan → unpolarized e c i ≡ nan
 unfolding unpolarized
-second-nan e c i h = ap (λ (s : Float). mean_square (contrast (e ⊗ c) i) s) h ∙ mean_to-nan (contrast (e ⊗ c) i)
+second_nan e c i h = ap (λ (s : Float). mean_square (contrast (e ⊗ c) i) s) h ∙ mean_to-nan (contrast (e ⊗ c) i)
 
 -- ---- the sine's square is a number if the cosine is
 -- the infinity, or finite and not below 0
@@ -97,7 +97,7 @@ numerator c (inr h) = go (sq_ext c h.0)
     go (inl q) =
         let y = c ⊗ c in
         let f : Fin y = (is_finite_lem y q.1.0 (sq (mag c)) q.1.1, mul-fits B c c) in
-        subst (λ (z : Float). Number z) (sym (sub_opens f1 y)) (sum_number f1 (neg y) f1_upto.fin (neg-parts y f).0)
+        subst (λ (z : Float). Number z) (sym (sub_opens f1 y)) (sum_number f1 (neg y) f1_upto.fin (neg_parts y f).0)
 
 nan-number : Number nan → ⊥
 unfolding is_nan
@@ -135,9 +135,9 @@ inner_inf : (s : Float) → f1 ⊖ s ≡ inf false → cos_i s ≡ inf false
 unfolding cos_i
 inner_inf s h = ap (λ (d : Float). sqrt (max d f0)) h ∙ root_inf
 
-one_minus-minus_inf : f1 ⊖ inf true ≡ inf false
+one_minus_minus_inf : f1 ⊖ inf true ≡ inf false
 unfolding sub add neg
-one_minus-minus_inf = refl
+one_minus_minus_inf = refl
 
 total_inf : T (is_total (inf false))
 unfolding is_total le lt
@@ -149,7 +149,7 @@ not_total s t = t
 
 inner_any : (s : Float) → T (fits B s) → Number s → T (not (is_total s)) → (cos_i s ≡ inf false) ⊎ Inner (cos_i s)
 inner_any nan f n t = absurd (nan-number n)
-inner_any (inf true) f n t = inl (inner_inf (inf true) one_minus-minus_inf)
+inner_any (inf true) f n t = inl (inner_inf (inf true) one_minus_minus_inf)
 inner_any (inf false) f n t = absurd (T_not (is_total (inf false)) t total_inf)
 inner_any (fin u m e) f n t = go (gap s (tt, f) (not_total s t))
   where
@@ -163,12 +163,12 @@ inner_any (fin u m e) f n t = go (gap s (tt, f) (not_total s t))
 -- ---- the whole term
 unpolarized_any : (e c i : Float) → Index e → Size c → (i ≡ inf false) ⊎ Inner i → NanOrShare (unpolarized e c i)
 unpolarized_any e c i he hc (inl q) = inl (first_nan e c i (ap (λ (z : Float). contrast (e ⊗ c) z) q ∙ contrast_to_inf (e ⊗ c)))
-unpolarized_any e c i he (inl q) (inr y) = inl (second-nan e c i (ap (λ (z : Float). contrast z (e ⊗ i)) q ∙ contrast_from_inf (e ⊗ i)))
+unpolarized_any e c i he (inl q) (inr y) = inl (second_nan e c i (ap (λ (z : Float). contrast z (e ⊗ i)) q ∙ contrast_from_inf (e ⊗ i)))
 unpolarized_any e c i he (inr h) (inr y) = go (product_ext e c he h.0 h.1) (product_ext e i he y.fin y.above)
   where
     go : Ext (e ⊗ c) (product_size e c) → Ext (e ⊗ i) (product_size e i) → NanOrShare (unpolarized e c i)
     go (inr q) r = inl (first_nan e c i (ap (λ (z : Float). contrast z i) q.1 ∙ contrast_from_inf i))
-    go (inl q) (inr r) = inl (second-nan e c i (ap (λ (z : Float). contrast c z) r.1 ∙ contrast_to_inf c))
+    go (inl q) (inr r) = inl (second_nan e c i (ap (λ (z : Float). contrast c z) r.1 ∙ contrast_to_inf c))
     go (inl q) (inl r) =
         let ec = indexed_below e c he h.0 h.1 q.0 in
         let ei = indexed_below e i he y.fin y.above r.0 in
@@ -191,7 +191,7 @@ unfolding fr_facing is_total sin2_i le lt eq sub add neg mul div
 facing-nan_is e = refl
 
 facing-nan : (e : Float) → fr_facing nan e ≡ nan
-facing-nan e = facing-nan_is e ∙ second-nan e nan (cos_i nan) (contrast_from-nan (e ⊗ cos_i nan))
+facing-nan e = facing-nan_is e ∙ second_nan e nan (cos_i nan) (contrast_from-nan (e ⊗ cos_i nan))
 
 pub fr_real_any : (c e : Float) → T (fits B c) → Index e → NanOrShare (fr_real c e)
 unfolding fr_real abs N lib.Ieee.fits

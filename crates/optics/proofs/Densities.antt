@@ -70,15 +70,15 @@ sampled_not_below a wh wo = max_not_below (g1 a wo wh ⊗ d a wh ⊗ abs (dot wh
 
 -- n is the density of the normal
 module _ (n : Float) (h : NotNegative n) (wo wh : Vec3) where
-  mirrored-not-below : NotNegative (mirrored_pdf n wo wh)
+  mirrored_not_below : NotNegative (mirrored_pdf n wo wh)
   unfolding mirrored_pdf
-  mirrored-not-below =
+  mirrored_not_below =
       let c = abs (dot wo wh) in
       div_not_below n (f4 ⊗ c) h (mul-plus f4 c refl (abs-plus (dot wo wh)))
 
-  bent-not-below : (ratio : Float) (wi : Vec3) → NotNegative (bent_pdf n ratio wo wi wh)
+  bent_not_below : (ratio : Float) (wi : Vec3) → NotNegative (bent_pdf n ratio wo wi wh)
   unfolding bent_pdf powi2
-  bent-not-below ratio wi =
+  bent_not_below ratio wi =
       let c = abs (dot wi wh) in
       let v = dot wi wh ⊕ dot wo wh ⊘ ratio in
       div_not_below (n ⊗ c) (v ⊗ v) (mul_not_below n c h (plus_not_below c (abs-plus (dot wi wh)))) (square-plus v)
@@ -95,7 +95,7 @@ conductor_not_below a wo wi = go (same_hemisphere wi wo) (is_delta a)
 
     go : (same delta : Bool) → NotNegative (cond same (cond delta (at_z wh f1) (mirrored_pdf n wo wh)) f0)
     go true true = at_z_not_below wh f1 (inl refl)
-    go true false = mirrored-not-below n (sampled_not_below a wh wo) wo wh
+    go true false = mirrored_not_below n (sampled_not_below a wh wo) wo wh
     go false delta = f0_not_below
 
 reflected_not_below : (n : Float) (smooth : Bool) (F : Float) (wo wh : Vec3) → NotNegative n → SharesSigns F → NotNegative (reflected_pdf n smooth F wo wh)
@@ -103,7 +103,7 @@ unfolding reflected_pdf
 reflected_not_below n true F wo wh h s = let whole = F ⊕ rest F in at_z_not_below wh (F ⊘ whole) (div_not_below F whole s.first s.whole)
 reflected_not_below n false F wo wh h s =
     let m = mirrored_pdf n wo wh in
-    div_not_below (m ⊗ F) (F ⊕ rest F) (mul_not_below m F (mirrored-not-below n h wo wh) s.first) s.whole
+    div_not_below (m ⊗ F) (F ⊕ rest F) (mul_not_below m F (mirrored_not_below n h wo wh) s.first) s.whole
 
 passed_not_below : (n : Float) (smooth : Bool) (ratio F : Float) (wo wi wh : Vec3) → NotNegative n → SharesSigns F
     → NotNegative (passed_pdf n smooth ratio F wo wi wh)
@@ -113,7 +113,7 @@ passed_not_below n true ratio F wo wi wh h s =
     at_z_not_below wh (rest F ⊘ whole) (div_not_below (rest F) whole s.second s.whole)
 passed_not_below n false ratio F wo wi wh h s =
     let m = bent_pdf n ratio wo wi wh in
-    div_not_below (m ⊗ rest F) (F ⊕ rest F) (mul_not_below m (rest F) (bent-not-below n h wo wh ratio wi) s.second) s.whole
+    div_not_below (m ⊗ rest F) (F ⊕ rest F) (mul_not_below m (rest F) (bent_not_below n h wo wh ratio wi) s.second) s.whole
 
 nan_or-share : (wo wh : Vec3) (eta k : Float) → Index eta → T (eq k f0) → NanOrShare (f_at wo wh eta k)
 unfolding f_at

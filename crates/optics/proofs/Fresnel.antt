@@ -13,18 +13,18 @@ use native.Mathlib.Omega.{arith}
 use lib.Dec.{T, eqb, eqb→eq, lit≤, lit<, T_not}
 use lib.Ieee.{Float, nan, inf, fin, Format, binary64, up, down, neg, le, lt, eq, fits}
 use lib.Ieee.Fits.{and_l, mul-fits, div-fits, sub-fits}
-use Rattle.floats.proofs.Rounding.{rnd, rnd-fix, below_or_from}
-use Rattle.floats.proofs.Rounding.Units.{U, O, U_pos, U_O, Is, is_of, sign, mag, pp, nn, neg_is, sub_opens, zero-units}
-use Rattle.floats.proofs.Rounding.NonNegative.{Ext, Fine, ext_le, finite_ext, nil_ext, unit_ext, mul_ext, div_ext, sub-fine, add_ext, fine_under, share_of, inside, U_held, rnd-ge, rnd-le, fine_pos, ext_pos, two_U, two_O, unit-fine}
+use Rattle.floats.proofs.Rounding.{rnd, rnd_fix, below_or_from}
+use Rattle.floats.proofs.Rounding.Units.{U, O, U_pos, U_O, Is, is_of, sign, mag, pp, nn, neg_is, sub_opens, zero_units}
+use Rattle.floats.proofs.Rounding.NonNegative.{Ext, Fine, ext_le, finite_ext, nil_ext, unit_ext, mul_ext, div_ext, sub-fine, add_ext, fine_under, share_of, inside, U_held, rnd-ge, rnd-le, fine_pos, ext_pos, two_U, two_O, unit_fine}
 use Rattle.floats.proofs.Rounding.Shares.{contrast as contrast-share, Share, f1-share}
-use Rattle.floats.proofs.Rounding.Error.{Fin, P, N, M, parts, parts-le}
+use Rattle.floats.proofs.Rounding.Error.{Fin, P, N, M, parts, parts_le}
 use Rattle.floats.proofs.square_root.WholeRoot.{RootErr}
 use Rattle.floats.proofs.Rounding.Expression.{fv, ◌-ᶠ◌, ◌*ᶠ◌, mg, tame, closed}
 use Rattle.numbers.proofs.dense_spectrum.Interpolation.{Around, Index, index_bits, index_most}
 use Rattle.floats.specs.Float.{◌⊕◌, ◌⊖◌, ◌⊗◌, ◌⊘◌, f0, f1, f2, abs}
 use Rattle.floats.specs.SquareRoot.{sqrt}
 use Rattle.optics.specs.Fresnel.{index_from, sin2_i, is_total, cos_i, contrast, mean_square, unpolarized, fr_facing, fr_real, fr_complex, fresnel}
-use Rattle.floats.proofs.Rounding.Sizes.{Upto, widen, expression, f1_upto, f1-parts, f2-units, held_O, ext_N, root_max, held_power, factor_pos, divide, fine_N, pos_of}
+use Rattle.floats.proofs.Rounding.Sizes.{Upto, widen, expression, f1_upto, f1_parts, f2_units, held_O, ext_N, root_max, held_power, factor_pos, divide, fine_N, pos_of}
 use Rattle.floats.proofs.square_root.RootOrZero.{rooted}
 
 abbrev B : Format
@@ -34,7 +34,7 @@ pub le-nil : (x : Float) → Fin x → N x ≡ 0 → T (le f0 x)
 le-nil x f n = ext_le f0 x 0 (mag x) nil_ext (ext_N x f n) zero-le
 
 held1 : rnd 53 1 1 ≡ 1
-held1 = rnd-fix 53 1 0 (lit< tt)
+held1 = rnd_fix 53 1 0 (lit< tt)
 
 -- ---- the index: from 1 / `index_most` to `index_most`
 unfoldable low_U : ℕ
@@ -42,7 +42,7 @@ low_U = 2 ^ (1074 - index_bits)
 
 low_is : (index_most * low_U ≡ U) × (rnd 53 low_U 1 ≡ low_U)
 unfolding U low_U
-low_is = (refl, rnd-fix 53 1 (1074 - index_bits) (lit< tt))
+low_is = (refl, rnd_fix 53 1 (1074 - index_bits) (lit< tt))
 
 around_pos : (k : ℕ) (e : Float) → Around k e → 0 < mag e
 around_pos k e h = factor_pos k (mag e) (lt_of_lt_of_le U_pos h.low)
@@ -65,7 +65,7 @@ zero_sized (fin s m e) f t =
 
     none : (n : ℕ) → m * up e * U ≡ n * down e → m * up e ≡ 0 → n ≡ 0
     none zero h z = refl
-    none (suc n) h z = absurd (zero-units (suc n) e (zero-lt-suc n) (null (up e) U ∙ ap (λ (k : ℕ). k * U) (sym z) ∙ h))
+    none (suc n) h z = absurd (zero_units (suc n) e (zero-lt-suc n) (null (up e) U ∙ ap (λ (k : ℕ). k * U) (sym z) ∙ h))
 
 -- so an index is not 0
 pub index_not-zero : (e : Float) → Index e → eq e f0 ≡ false
@@ -134,7 +134,7 @@ low2 = 2 ^ (1074 - square_bits)
 
 low2_is : (square_most * low2 ≡ U) × (rnd 53 low2 1 ≡ low2)
 unfolding U low2
-low2_is = (refl, rnd-fix 53 1 (1074 - square_bits) (lit< tt))
+low2_is = (refl, rnd_fix 53 1 (1074 - square_bits) (lit< tt))
 
 pub index-square : (e : Float) → Index e → Fin (e ⊗ e) × (U ≤ square_most * mag (e ⊗ e))
 index-square e h =
@@ -177,7 +177,7 @@ sin2_upto c e h i =
 
 -- ---- where it is not 1 or more, the cosine inside is above 0
 nle_parts : (x y : Float) → Fin x → Fin y → T (not (le x y)) → P y + N x < P x + N y
-nle_parts x y f g t = elim (below_or_from (P y + N x) (P x + N y)) [ inl l ↦ l | inr h ↦ absurd (T_not (le x y) t (parts-le x y f g h)) ]
+nle_parts x y f g t = elim (below_or_from (P y + N x) (P x + N y)) [ inl l ↦ l | inr h ↦ absurd (T_not (le x y) t (parts_le x y f g h)) ]
 
 -- 1 - s is above 0, or the infinity
 pub gap : (s : Float) → Fin s → T (not (le f1 s)) → (n : ℕ) × Ext (f1 ⊖ s) n × (0 < n)
@@ -197,9 +197,9 @@ gap s f t = go (sign s) refl (nle_parts f1 s f1_upto.fin f t)
     go false e st =
         let p = ap (λ (b : Bool). pp b a) e in
         let n = ap (λ (b : Bool). nn b a) e in
-        let l : a < U = lin a U (P s) (N s) (P f1) (N f1) p n f1-parts.0 f1-parts.1 st in
+        let l : a < U = lin a U (P s) (N s) (P f1) (N f1) p n f1_parts.0 f1_parts.1 st in
         let fine-s : Fine s a = (false, subst (λ (b : Bool). Is s b a) e is, refl) in
-        (rnd 53 (U - a) 1, sub-fine f1 s U a unit-fine fine-s (le_of_lt l), some (U - a) (omega arith))
+        (rnd 53 (U - a) 1, sub-fine f1 s U a unit_fine fine-s (le_of_lt l), some (U - a) (omega arith))
       where
         lin : (a u p n c d : ℕ) → p ≡ a → n ≡ 0 → c ≡ u → d ≡ 0 → p + d < c + n → a < u
         lin a u p n c d h₁ h₂ h₃ h₄ h₅ = omega arith
@@ -344,7 +344,7 @@ mean p q fp fq hp hq =
     let l : s ≤ 2 * U = rnd-le (2 * U) (a.0 + b.0) 1 (lit< tt) two_U (omega arith) in
     let e = add_ext p q a.0 b.0 (inl (lt_of_le_of_lt a.2 U_O, a.1)) (inl (lt_of_le_of_lt b.2 U_O, b.1)) in
     let sum = fine_under (p ⊕ q) s e (lt_of_le_of_lt l two_O) in
-    let d = div_ext (p ⊕ q) f2 s (2 * U) sum (false, (refl, f2-units), refl) two in
+    let d = div_ext (p ⊕ q) f2 s (2 * U) sum (false, (refl, f2_units), refl) two in
     inside ((p ⊕ q) ⊘ f2) f1 (rnd 53 (s * U) (2 * U)) U d unit_ext U_O
     (rnd-le U (s * U) (2 * U) two U_held.0 (le_trans (mul-le-mul_right U l) (le_of_eq (mul_comm (2 * U) U))))
 
@@ -375,17 +375,17 @@ facing-share c e h n i = go (is_total s) (inner s (sin2_upto c e h i))
     go true f = f1-share
     go false f = unpolarized-share e c (cos_i s) h.fin n (f tt) ec (ei (f tt))
 
-abs-parts : (k : ℕ) (c : Float) → Upto k c → Upto k (abs c) × (N (abs c) ≡ 0)
+abs_parts : (k : ℕ) (c : Float) → Upto k c → Upto k (abs c) × (N (abs c) ≡ 0)
 unfolding N lib.Ieee.fits abs
-abs-parts k nan h = absurd h.fin.0
-abs-parts k (inf s) h = absurd h.fin.0
-abs-parts k (fin true zero e) h = (record { fin = (tt, h.fin.1); size = h.size }, refl)
-abs-parts k (fin true (suc m) e) h = (record { fin = (tt, h.fin.1); size = h.size }, refl)
-abs-parts k (fin false m e) h = (h, refl)
+abs_parts k nan h = absurd h.fin.0
+abs_parts k (inf s) h = absurd h.fin.0
+abs_parts k (fin true zero e) h = (record { fin = (tt, h.fin.1); size = h.size }, refl)
+abs_parts k (fin true (suc m) e) h = (record { fin = (tt, h.fin.1); size = h.size }, refl)
+abs_parts k (fin false m e) h = (h, refl)
 
 pub fr_real-share : (c e : Float) → Upto 64 c → Index e → Share (fr_real c e)
 unfolding fr_real
-fr_real-share c e h i = let a = abs-parts 64 c h in facing-share (abs c) (index_from c e) a.0 a.1 (index_from_lem c e i)
+fr_real-share c e h i = let a = abs_parts 64 c h in facing-share (abs c) (index_from c e) a.0 a.1 (index_from_lem c e i)
 
 -- `fresnel` at an index in range and with no absorption
 pub fresnel_real : (c e k : Float) → Index e → T (eq k f0) → fresnel c e k ≡ fr_real c e

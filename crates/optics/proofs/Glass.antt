@@ -2,7 +2,7 @@
 -- normal or Z.
 -- Proved: the share F is finite and from 0 to 1 (`glass-share`); F and 1 - F, with 1 - F from 0 to 1, add up to 1 exactly, the
 -- sampler's quotient F / (F + (1 - F)) is F, and its test is u < F (`shares_of`); what the samplers give is never total reflection,
--- and a direction of theirs has finite parts (`glass-outcome`, `metal-outcome`; `glass-never-total`,
+-- and a direction of theirs has finite parts (`glass-outcome`, `metal-outcome`; `glass_never_total`,
 -- `glass-direction`). Where `refract` would meet total reflection F is 1, to the last bit the same computation (`total-is_one`), so
 -- that u < 1 takes the mirrored branch.
 use mathlib.Core.Path.{◌≡◌, refl, sym, ap, ◌∙◌, subst}
@@ -15,13 +15,13 @@ use lib.Dec.{T, lit≤, lit<}
 use lib.Ieee.{Float, fin, Format, binary64, unlike, neg, lt, eq, fits}
 use lib.Ieee.Fits.{add-fits, div-fits}
 use Rattle.floats.proofs.Rounding.{rnd}
-use Rattle.floats.proofs.Rounding.Units.{U, O, U_pos, Is, is_of, sign, mag, div_is, round-units, rnd_U, unique}
+use Rattle.floats.proofs.Rounding.Units.{U, O, U_pos, Is, is_of, sign, mag, div_is, round_units, rnd_U, unique}
 use Rattle.floats.proofs.Rounding.NonNegative.{unit_is}
 use Rattle.floats.proofs.Rounding.Shares.{shares, Share}
 use Rattle.floats.proofs.Rounding.Error.{Fin, M/2}
 use Rattle.floats.proofs.Rounding.Expression.{fv, ◌+ᶠ◌, ◌-ᶠ◌, ◌*ᶠ◌, mg, tame, closed}
 use Rattle.numbers.proofs.dense_spectrum.Interpolation.{Index, index_bits, index_most}
-use Rattle.numbers.proofs.vec3.UnitVector.{norm, k46, sum3, sum3-err, dot_ext, k51, twice51, room_O}
+use Rattle.numbers.proofs.vec3.UnitVector.{norm, k46, sum3, sum3_err, dot_ext, k51, twice51, room_O}
 use Rattle.floats.specs.Float.{◌⊕◌, ◌⊖◌, ◌⊗◌, ◌⊘◌, f0, f1, f2, abs}
 use Rattle.numbers.specs.Vec3.{vec3, add, sub, float_mul, div_float, negate, dot, length_squared, project_onto}
 use Rattle.numbers.specs.SphericalUtils.{same_hemisphere}
@@ -32,8 +32,8 @@ use Rattle.optics.specs.Fresnel.{index_from, sin2_i, is_total, cos_i, mean_squar
 use Rattle.optics.specs.Bxdf.{direction, none, total, mirrored, reflect, bent, across_only, refract_facing, refract, Scattered, scattered, lost, totally, branch, conductor_from, rest, reflects, dielectric_from}
 use Rattle.optics.proofs.Cosine.{dot_comm, sin2_abs, sin2_neg}
 use Rattle.floats.proofs.Rounding.Sizes.{Upto, widen, expression, f2_upto, neg_upto, held_power, divide, pos_of}
-use Rattle.numbers.proofs.vec3.Span.{Span, widen3, negate-span}
-use Rattle.optics.proofs.SampledNormal.{Unitary, unit-span, Local, local-span}
+use Rattle.numbers.proofs.vec3.Span.{Span, widen3, negate_span}
+use Rattle.optics.proofs.SampledNormal.{Unitary, unit_span, Local, local_span}
 use Rattle.optics.proofs.Fresnel.{index_inverse, sin2_upto, inner_most, inner_upto, reach, fresnel_real, fresnel-share}
 
 abbrev B : Format
@@ -47,7 +47,7 @@ dot_upto a b h k =
     (h.x, (h.y, (h.z, (k.x, (k.y, (k.z, tt)))))) tt tt (lit≤ tt)
 
 pub cosine_upto : (wo wh : Vec3) → Local wo → Unitary wh → Upto 64 (dot wo wh)
-cosine_upto wo wh h k = dot_upto wo wh (local-span wo h) (unit-span wh k)
+cosine_upto wo wh h k = dot_upto wo wh (local_span wo h) (unit_span wh k)
 
 turned_upto : (wo wh : Vec3) → Local wo → Unitary wh → Upto 64 (dot wh wo)
 turned_upto wo wh h k = subst (λ (c : Float). Upto 64 c) (dot_comm wo wh) (cosine_upto wo wh h k)
@@ -94,7 +94,7 @@ div_one x f =
     let q = x ⊘ f1 in
     let r = rnd 53 (a * U) U in
     let e : r ≡ a = rnd_U a ∙ i.1.0 in
-    let rounded = round-units (unlike s false) a U (subst (λ (z : ℕ). z < O) (sym e) i.1.1) in
+    let rounded = round_units (unlike s false) a U (subst (λ (z : ℕ). z < O) (sym e) i.1.1) in
     let opened = div_is x f1 s false a U i.0 unit_is U_pos in
     let k : Is q (unlike s false) r = subst (λ (z : Float). Is z (unlike s false) r) (sym opened) rounded in
     let k' : Is q s a = subst (λ (b : Bool). Is q b a) (unlike_false s) (subst (λ (n : ℕ). Is q (unlike s false) n) e k) in
@@ -125,9 +125,9 @@ pub glass-shares : (wo wh : Vec3) (eta k : Float) → Local wo → Unitary wh �
 glass-shares wo wh eta k h u i z = shares_of (f_at wo wh eta k) (share-fits wo wh eta k) (glass-share wo wh eta k h u i z)
 
 -- ---- the mirrored direction
-low-norm : 1024 * (M/2 * U) * 2 ≤ U * U
+low_norm : 1024 * (M/2 * U) * 2 ≤ U * U
 unfolding U
-low-norm = lit≤ tt
+low_norm = lit≤ tt
 
 pub dot-fits : (v w : Vec3) → T (fits B (dot v w))
 unfolding dot
@@ -142,7 +142,7 @@ self_dot n h =
     let D = norm a b c in
     let s = sum3 a b c in
     let lo : U * U ≤ 2 * D = omega arith in
-    let e = sum3-err a b c (le_of_mul-le-mul_right {k = 2} (le_trans low-norm (le_trans lo (le_of_eq (mul_comm 2 D)))) (lit< tt)) in
+    let e = sum3_err a b c (le_of_mul-le-mul_right {k = 2} (le_trans low_norm (le_trans lo (le_of_eq (mul_comm 2 D)))) (lit< tt)) in
     let hi : s * U ≤ 12 * U * U =
     le_trans (lin2 (s * U) D (U * U) e.0 (lin3 D (U * U) h.one.0)) (le_of_eq (sym (mul_assoc 12 U U))) in
     let top = le_trans (le_of_mul-le-mul_right {k = U} hi U_pos) (mul-le-mul_right U (lit≤ {m = 12} {n = 2305843009213693952} tt)) in
@@ -175,7 +175,7 @@ mirror_span wo n h u =
     let hc = cosine_upto wo n h u in
     let s = dot n n in
     let hs = self_dot n u in
-    let l = local-span wo h in
+    let l = local_span wo h in
     record {
       x = mirror_part n.x c s wo.x u.ux hc hs.0 hs.1 l.x;
       y = mirror_part n.y c s wo.y u.uy hc hs.0 hs.1 l.y;
@@ -196,10 +196,10 @@ bend_part c e i v n hc he hi hv hn =
     expression reach (neg v ⊘ e ∷ c ⊘ e ∷ i ∷ n ∷ []) (8192 * index_most ∷ 8192 * index_most ∷ inner_most ∷ 2 ∷ []) (fv 0 +ᶠ (fv 1 -ᶠ fv 2) *ᶠ fv 3)
     (a, (b, (hi, (hn, tt)))) tt tt (lit≤ tt)
 
-bent-span : (e c i : Float) (wo n : Vec3) → Index e → Upto 64 c → Upto inner_most i → Span 8 wo → Span 2 n
+bent_span : (e c i : Float) (wo n : Vec3) → Index e → Upto 64 c → Upto inner_most i → Span 8 wo → Span 2 n
     → Span reach (bent e c i wo n)
 unfolding bent add div_float negate float_mul
-bent-span e c i wo n he hc hi hw hn = record {
+bent_span e c i wo n he hc hi hw hn = record {
   x = bend_part c e i wo.x n.x hc he hi hw.x hn.x;
   y = bend_part c e i wo.y n.y hc he hi hw.y hn.y;
   z = bend_part c e i wo.z n.z hc he hi hw.z hn.z;
@@ -256,7 +256,7 @@ facing-outcome e c wo n he hc hw hn never = go (is_total (sin2_i c e)) never
 
     across : (b : Bool) → Outcome (branch false (cond b none (direction wi)))
     across true = tt
-    across false = bent-span e c i wo n he hc (inner_upto (sin2_i c e) (sin2_upto c e hc he)) hw hn
+    across false = bent_span e c i wo n he hc (inner_upto (sin2_i c e) (sin2_upto c e hc he)) hw hn
 
     go : (b : Bool) → (T b → ⊥) → Outcome (branch false (cond b total (cond (same_hemisphere wi wo) none (direction wi))))
     go true never = absurd (never tt)
@@ -274,17 +274,17 @@ refract-outcome eta wo n i h u never = go (lt c f0) (λ (t : T (is_total (sin2_i
     hc = turned_upto wo n h u
 
     l : Span 8 wo
-    l = local-span wo h
+    l = local_span wo h
 
     s : Span 2 n
-    s = unit-span n u
+    s = unit_span n u
 
     one : T (is_total (sin2_i (facing (lt c f0) c) (index (lt c f0) eta))) → fr_real (dot wo n) eta ≡ f1
     one t = ap (λ (d : Float). fr_real d eta) (dot_comm wo n) ∙ total-is_one c eta t
 
     go : (b : Bool) → (T (is_total (sin2_i (facing b c) (index b eta))) → ⊥)
         → Outcome (branch false (cond b (refract_facing (f1 ⊘ eta) (neg c) wo (negate n)) (refract_facing eta c wo n)))
-    go true never = facing-outcome (f1 ⊘ eta) (neg c) wo (negate n) (index_inverse eta i) (neg_upto 64 c hc) l (negate-span 2 n s) never
+    go true never = facing-outcome (f1 ⊘ eta) (neg c) wo (negate n) (index_inverse eta i) (neg_upto 64 c hc) l (negate_span 2 n s) never
     go false never = facing-outcome eta c wo n i hc l s never
 
 -- ---- the laws on glass
@@ -309,9 +309,9 @@ glass-outcome eta k u wo wh i z below h w = go (reflects u F) refl
     go true e = reflect-outcome wo wh h w
     go false e = refract-outcome eta wo wh i h w (passes e)
 
-pub glass-never-total : (eta k u : Float) (wo wh : Vec3) → Index eta → T (eq k f0) → T (lt u f1) → Local wo → Unitary wh
+pub glass_never_total : (eta k u : Float) (wo wh : Vec3) → Index eta → T (eq k f0) → T (lt u f1) → Local wo → Unitary wh
     → dielectric_from eta (f_at wo wh eta k) u wo wh ≡ totally → ⊥
-glass-never-total eta k u wo wh i z below h w e = subst (λ (s : Scattered). Outcome s) e (glass-outcome eta k u wo wh i z below h w)
+glass_never_total eta k u wo wh i z below h w e = subst (λ (s : Scattered). Outcome s) e (glass-outcome eta k u wo wh i z below h w)
 
 pub glass-direction : (eta k u : Float) (wo wh wi : Vec3) (reflection : Bool) → Index eta → T (eq k f0) → T (lt u f1) → Local wo
     → Unitary wh
@@ -325,7 +325,7 @@ unfolding conductor_from
 metal-outcome a wo wh h w = go (is_delta a)
   where
     l : Span 8 wo
-    l = local-span wo h
+    l = local_span wo h
 
     m : Vec3
     m = vec3 (neg wo.x) (neg wo.y) wo.z

@@ -9,7 +9,7 @@ use lib.Ieee.{Float, Format, binary64, eq, fits}
 use lib.Ieee.Fits.{and_l, and_r, and_i}
 use Rattle.floats.specs.Float.{◌⊘◌, f0, decimal}
 use Rattle.numbers.specs.DenseSpectrum.{step_of, is_table, one_spacing, terminated, entry, sample_one_at, is_constant, all_within, is_wavelength}
-use Rattle.numbers.proofs.dense_spectrum.Interpolation.{read_most, Read, Index, AllFit, first_index, not_terminated, wave-in_table}
+use Rattle.numbers.proofs.dense_spectrum.Interpolation.{read_most, Read, Index, AllFit, first_index, not_terminated, wave_in_table}
 use Rattle.numbers.proofs.dense_spectrum.Spacing.{shared_step}
 use Rattle.optics.specs.Surface.{Kind, Metal, Glass, Outside, air, medium, Microsurface, eta_min, eta_max, eta_holds, outer_holds, eta_from, eta_at, outer_at, quotient, index_on, index_at}
 use Rattle.optics.proofs.Fresnel.{quotient-index}
@@ -65,7 +65,7 @@ outer_read eta outer lambda all h f w = go (is_constant outer)
 -- ---- the index
 quotient_in : (lambda eta outer : Float) → Read eta → Read outer → T (fits B lambda) → T (is_wavelength lambda) → Index (quotient lambda eta outer)
 unfolding quotient
-quotient_in lambda eta outer e o f w = go (eq lambda terminated) (not_terminated lambda f (wave-in_table lambda w))
+quotient_in lambda eta outer e o f w = go (eq lambda terminated) (not_terminated lambda f (wave_in_table lambda w))
   where
     go : (b : Bool) → (T b → ⊥) → Index (cond b f0 (eta ⊘ outer))
     go true n = absurd (n tt)

@@ -17,11 +17,11 @@ use lib.Ieee.Fits.{and_l, and_r}
 use Rattle.floats.proofs.Rounding.{Near, below_or_from}
 use Rattle.floats.proofs.Rounding.Units.{U, U_pos, mag, le-finite}
 use Rattle.floats.proofs.Rounding.NonNegative.{lt-le}
-use Rattle.floats.proofs.Rounding.Error.{Fin, P, N, le_parts, neg-parts, sum_mag, unit-fin, one_side}
-use Rattle.floats.proofs.Rounding.SignedPoly.{R, ◌⊞◌, ◌⊠◌, inv, nat, va, li, ◌∔◌, ◌⋆◌, minus, vanishes, ab, ab-inv, ab-nat, ab-mul, ab-poly, Q, Bd, sc, bd_unsc, lift}
+use Rattle.floats.proofs.Rounding.Error.{Fin, P, N, le_parts, neg_parts, sum_mag, unit_fin, one_side}
+use Rattle.floats.proofs.Rounding.SignedPoly.{R, ◌⊞◌, ◌⊠◌, inv, nat, va, li, ◌∔◌, ◌⋆◌, minus, vanishes, ab, ab-inv, ab-nat, ab-mul, ab_poly, Q, Bd, sc, bd_unsc, lift}
 use Rattle.floats.proofs.Rounding.Expression.{rv, sc0, pow1, pow2, ulp, mul_bd, Fl, fv, ◌+ᶠ◌, ◌-ᶠ◌, ◌*ᶠ◌, pd, ex, mg, er, tame, closed, sound, size-mag}
-use Rattle.numbers.proofs.vec3.Direction.{Direction, flip_near, unit-rv}
-use Rattle.numbers.proofs.onb.LocalBasis.{Tame, Tame3, Large, local-tame, local-large}
+use Rattle.numbers.proofs.vec3.Direction.{Direction, flip_near, unit_rv}
+use Rattle.numbers.proofs.onb.LocalBasis.{Tame, Tame3, Large, local_tame, local_large}
 use Rattle.numbers.proofs.vec3.UnitVector.{norm, Room, Unit3, unit_of, k46, twice47}
 use Rattle.floats.specs.Float.{◌⊕◌, ◌⊖◌, ◌⊗◌, f0, f1, f_1, max, within, decimal, epsilon}
 use Rattle.floats.specs.SquareRoot.{sqrt}
@@ -32,7 +32,7 @@ use Rattle.numbers.specs.declared.vec3.Vec3.{Vec3}
 use Rattle.optics.specs.Surface.{roughness_min, is_roughness, roughness_holds}
 use Rattle.optics.specs.Check.{is_random, is_circle_pair}
 use Rattle.optics.specs.Sampler.{stretched, upright, viewed, tangent, lerp, disk_x, disk_h, disk_y, disk_z, on_hemisphere, combined, unstretched, sample_normal}
-use Rattle.floats.proofs.Rounding.Sizes.{Upto, widen, Sized, limits, vars_of, bd_upto, upto_bd, expression, f0_upto, f1_upto, f1-parts, f0-parts, mag-neg, neg_upto, zero_N, not_neg, in_disk, nlt_parts, lt-zero, root_upto, root_max, half}
+use Rattle.floats.proofs.Rounding.Sizes.{Upto, widen, Sized, limits, vars_of, bd_upto, upto_bd, expression, f0_upto, f1_upto, f1_parts, f0_parts, mag-neg, neg_upto, zero_N, not_neg, in_disk, nlt_parts, lt-zero, root_upto, root_max, half}
 use Rattle.numbers.proofs.vec3.Span.{Span}
 
 abbrev B : Format
@@ -82,9 +82,9 @@ rough_part r fr h =
     let b = rough_bounds r h in
     let f : Fin r = (le-finite least r f1 tt tt b.0 b.1, fr) in
     let l = le_parts least r least-fin f b.0 in
-    let m = le_parts r f1 f (unit-fin false) b.1 in
+    let m = le_parts r f1 f (unit_fin false) b.1 in
     let n0 : N r ≡ 0 = zero_N (P r) (N r) (P least) (N least) l least_is.1 (one_side r) in
-    let at_most = hi (P r) (N r) (P f1) (N f1) U m f1-parts.0 f1-parts.1 n0 in
+    let at_most = hi (P r) (N r) (P f1) (N f1) U m f1_parts.0 f1_parts.1 n0 in
     let at_least_lem = lo (P r) (N r) (P least) (N least) U l least_is.0 least_is.1 in
     record {
       up = record { fin = f; size = le_trans (le_of_eq (sym (sum_mag r))) at_most };
@@ -113,16 +113,16 @@ Some a = U ≤ 549755813888 * a
 abbrev Few : ℕ → Type 0
 Few a = a ≤ 536870912 * U
 
-room-low : (a t : ℕ) → Some a → a * a ≤ t → U * U ≤ 2 ^ 80 * t
-room-low a t h g = omega (arith, mul-le-mul h h)
+room_low : (a t : ℕ) → Some a → a * a ≤ t → U * U ≤ 2 ^ 80 * t
+room_low a t h g = omega (arith, mul-le-mul h h)
 
-room-high : (a b c : ℕ) → Few a → Few b → Few c → norm a b c ≤ 1152921504606846976 * (U * U)
-room-high a b c h k l = omega (arith, mul-le-mul h h, mul-le-mul k k, mul-le-mul l l)
+room_high : (a b c : ℕ) → Few a → Few b → Few c → norm a b c ≤ 1152921504606846976 * (U * U)
+room_high a b c h k l = omega (arith, mul-le-mul h h, mul-le-mul k k, mul-le-mul l l)
 
 room_of : (a b c : ℕ) → Few a → Few b → Few c → Some a ⊎ (Some b ⊎ Some c) → Room a b c
-room_of a b c h k l (inl s) = (room-low a (norm a b c) s (omega arith), room-high a b c h k l)
-room_of a b c h k l (inr (inl s)) = (room-low b (norm a b c) s (omega arith), room-high a b c h k l)
-room_of a b c h k l (inr (inr s)) = (room-low c (norm a b c) s (omega arith), room-high a b c h k l)
+room_of a b c h k l (inl s) = (room_low a (norm a b c) s (omega arith), room_high a b c h k l)
+room_of a b c h k l (inr (inl s)) = (room_low b (norm a b c) s (omega arith), room_high a b c h k l)
+room_of a b c h k l (inr (inr s)) = (room_low c (norm a b c) s (omega arith), room_high a b c h k l)
 
 few_of : (k : ℕ) (x : Float) → Upto k x → k ≤ 536870912 → Few (mag x)
 few_of k x h g = le_trans h.size (mul-le-mul_right U g)
@@ -148,8 +148,8 @@ scaled x r h k =
     let w = mul_bd x r (8 * Q) (1 * Q) h.fin k.up.fin (upto_bd 8 x h) (upto_bd 1 r k.up) (lit≤ tt) in
     bd_upto 9 (x ⊗ r) (ulp most + most) w.0 w.2 (lit≤ tt)
 
-scaled-low : (x r : Float) → Upto 8 x → RoughPart r → Large x → Some (mag (x ⊗ r))
-scaled-low x r h k l =
+scaled_low : (x r : Float) → Upto 8 x → RoughPart r → Large x → Some (mag (x ⊗ r))
+scaled_low x r h k l =
     let z = x ⊗ r in
     let w = mul_bd x r (8 * Q) (1 * Q) h.fin k.up.fin (upto_bd 8 x h) (upto_bd 1 r k.up) (lit≤ tt) in
     let d = ab (nat U ⊠ rv z ⊞ inv (rv x ⊠ rv r)) in
@@ -173,8 +173,8 @@ squeezed a l = vec3 (l.x ⊗ a.x) (l.y ⊗ a.y) l.z
 abbrev SomeLarge : Vec3 → Type 0
 SomeLarge l = Large l.x ⊎ (Large l.y ⊎ Large l.z)
 
-squeezed-unit : (a : Vec2) (l : Vec3) → Rough a → Tame3 l → SomeLarge l → Unit3 (squeezed a l)
-squeezed-unit a l h t large =
+squeezed_unit : (a : Vec2) (l : Vec3) → Rough a → Tame3 l → SomeLarge l → Unit3 (squeezed a l)
+squeezed_unit a l h t large =
     let s : Span 9 (squeezed a l) = record {
       x = scaled l.x a.x ux rx;
       y = scaled l.y a.y uy ry;
@@ -195,8 +195,8 @@ squeezed-unit a l h t large =
     uy = tame_upto l.y t.1
 
     go : SomeLarge l → Some (mag (l.x ⊗ a.x)) ⊎ (Some (mag (l.y ⊗ a.y)) ⊎ Some (mag l.z))
-    go (inl h) = inl (scaled-low l.x a.x ux rx h)
-    go (inr (inl h)) = inr (inl (scaled-low l.y a.y uy ry h))
+    go (inl h) = inl (scaled_low l.x a.x ux rx h)
+    go (inr (inl h)) = inr (inl (scaled_low l.y a.y uy ry h))
     go (inr (inr h)) = inr (inr (some-large l.z h))
 
 -- ---- a unit vector, as far as is needed
@@ -214,8 +214,8 @@ unitary v h = record {
   one = h.one;
 }
 
-pub unit-span : (v : Vec3) → Unitary v → Span 2 v
-unit-span v h = record { x = h.ux; y = h.uy; z = h.uz }
+pub unit_span : (v : Vec3) → Unitary v → Span 2 v
+unit_span v h = record { x = h.ux; y = h.uy; z = h.uz }
 
 pub z_span : Span 2 Z
 z_span = record { x = widen 0 2 f0 (lit≤ tt) f0_upto; y = widen 0 2 f0 (lit≤ tt) f0_upto; z = widen 1 2 f1 (lit≤ tt) f1_upto }
@@ -232,9 +232,9 @@ z_unitary = record {
   one = rw (z_mags.0, z_mags.1) (omega arith, omega arith);
 }
 
-negate-unitary : (v : Vec3) → Unitary v → Unitary (negate v)
+negate_unitary : (v : Vec3) → Unitary v → Unitary (negate v)
 unfolding negate
-negate-unitary v h = record {
+negate_unitary v h = record {
   ux = neg_upto 2 v.x h.ux;
   uy = neg_upto 2 v.y h.uy;
   uz = neg_upto 2 v.z h.uz;
@@ -256,9 +256,9 @@ raised v h = go (lt v.z f0) (lt-zero v.z h.uz.fin) (nlt_parts v.z f0 h.uz.fin f0
   where
     go : (b : Bool) → (T b → P v.z ≡ 0) → (T (not b) → P f0 + N v.z ≤ P v.z + N f0) → Raised (cond b (negate v) v)
     go true f g =
-        let above = (neg-parts v.z h.uz.fin).2 ∙ f tt in
-        record { unit = negate-unitary v h; above = rw (negated_z v) above }
-    go false f g = record { unit = h; above = zero_N (P v.z) (N v.z) (P f0) (N f0) (g tt) f0-parts.1 (one_side v.z) }
+        let above = (neg_parts v.z h.uz.fin).2 ∙ f tt in
+        record { unit = negate_unitary v h; above = rw (negated_z v) above }
+    go false f g = record { unit = h; above = zero_N (P v.z) (N v.z) (P f0) (N f0) (g tt) f0_parts.1 (one_side v.z) }
 
 -- ---- the first tangent: where 1 - z is not below EPSILON, z is away from 1
 eps_fin : Fin epsilon
@@ -273,9 +273,9 @@ tiny_of : (d k u : ℕ) → Q * d ≤ k * u → k ≤ 16777216 → 1099511627776
 tiny_of d k u h g = omega (arith, le_trans h (mul-le-mul_right u g))
 
 -- a difference of parts, opened
-opened-side : (a b c e f g : ℕ) → a + (e + f) ≤ b + (c + g) + ab ((a, b) ⊞ inv ((c, e) ⊞ inv (f, g)))
+opened_side : (a b c e f g : ℕ) → a + (e + f) ≤ b + (c + g) + ab ((a, b) ⊞ inv ((c, e) ⊞ inv (f, g)))
 unfolding ab ◌⊞◌ inv
-opened-side a b c e f g = omega arith
+opened_side a b c e f g = omega arith
 
 away : (z : Float) → Upto 2 z → N z ≡ 0 → T (not (lt (f1 ⊖ z) epsilon)) → 17179869184 * mag z + U ≤ 17179869184 * U
 unfolding closed tame pd ex lift er mg
@@ -291,7 +291,7 @@ away z h n t =
     let near : Bd 1 D k = subst (λ (w : R). Bd 1 (w ⊞ inv exact) k) (sc0 (rv d)) s.near in
     let tiny = tiny_of (ab D) k U (subst (λ (w : ℕ). Q * ab D ≤ k * w) pow1 near) (lit≤ tt) in
     last (P d) (N d) (P f1) (N f1) (P z) (N z) (mag z) (P epsilon) (N epsilon) (ab D) U
-    (opened-side (P d) (N d) (P f1) (N f1) (P z) (N z)) tiny g f1-parts.0 f1-parts.1 n (sum_mag z) eps_is.0 eps_is.1
+    (opened_side (P d) (N d) (P f1) (N f1) (P z) (N z)) tiny g f1_parts.0 f1_parts.1 n (sum_mag z) eps_is.0 eps_is.1
   where
     last : (a b c e f g m p q d u : ℕ) → a + (e + f) ≤ b + (c + g) + d → 1099511627776 * d ≤ u → p + b ≤ a + q → c ≡ u → e ≡ 0 → g ≡ 0
         → f + g ≡ m → 3 * u ≤ 34359738368 * p → q ≡ 0 → 17179869184 * m + u ≤ 17179869184 * u
@@ -346,9 +346,9 @@ five_sized s h = (h.ux, (h.uy, (h.uz, (f0_upto, (f1_upto, tt)))))
 keep : (y c d u : ℕ) → u ≤ 262144 * y → y ≤ c + d → 1099511627776 * d ≤ u → u ≤ 549755813888 * c
 keep y c d u a b e = omega arith
 
-f0-pair : rv f0 ≡ nat 0
+f0_pair : rv f0 ≡ nat 0
 unfolding P N U
-f0-pair = refl
+f0_pair = refl
 
 -- c is near the signed value y of size m
 kept : (c : Float) (y : R) (m k : ℕ) → ab y ≡ m → Bd 1 (rv c ⊞ inv y) k → k ≤ 16777216 → U ≤ 262144 * m → Some (mag c)
@@ -365,14 +365,14 @@ cross_x s h =
     let k = er (limits fives) cx in
     let y = rv s.y in
     let b : Bd 2 (nat (U ^ 1) ⊠ rv c ⊞ inv (y ⊠ rv f1 ⊞ inv (rv s.z ⊠ rv f0))) k = t.near in
-    let plain = fix (nat (U ^ 1)) (rv f1) (rv f0) (rv c) y (rv s.z) (ap (λ (z : ℕ). nat z) pow1) (unit-rv false) f0-pair in
+    let plain = fix (nat (U ^ 1)) (rv f1) (rv f0) (rv c) y (rv s.z) (ap (λ (z : ℕ). nat z) pow1) (unit_rv false) f0_pair in
     let b' : Bd 1 (rv c ⊞ inv y) k = bd_unsc 1 1 (rv c ⊞ inv y) k (subst (λ (z : ℕ). Q * z ≤ k * U ^ 2) plain b) in
     (bd_upto 3 c (mg (limits fives) cx) t.fin t.most (lit≤ tt), kept c y (mag s.y) k (size-mag s.y) b' (lit≤ tt))
   where
     fix : (u o n c y z : R) → u ≡ nat U → o ≡ nat U → n ≡ nat 0 → ab (u ⊠ c ⊞ inv (y ⊠ o ⊞ inv (z ⊠ n))) ≡ ab (u ⊠ (c ⊞ inv y))
     fix u o n c y z p q r =
         let left = va 0 ⋆ va 1 ∔ minus (va 2 ⋆ va 0 ∔ minus (va 3 ⋆ li 0)) in
-        rw (p, q, r) (ab-poly (nat U ∷ c ∷ y ∷ z ∷ []) left (va 0 ⋆ (va 1 ∔ minus (va 2))) tt)
+        rw (p, q, r) (ab_poly (nat U ∷ c ∷ y ∷ z ∷ []) left (va 0 ⋆ (va 1 ∔ minus (va 2))) tt)
 
 cross_y : (s : Vec3) → Unitary s → Upto 3 (cross s Z).y × (U ≤ 262144 * mag s.x → Some (mag (cross s Z).y))
 unfolding closed tame mg er pd ex lift sc vanishes cy cross
@@ -382,7 +382,7 @@ cross_y s h =
     let k = er (limits fives) cy in
     let x = rv s.x in
     let b : Bd 2 (nat (U ^ 1) ⊠ rv c ⊞ inv (rv s.z ⊠ rv f0 ⊞ inv (x ⊠ rv f1))) k = t.near in
-    let plain = fix (nat (U ^ 1)) (rv f1) (rv f0) (rv c) x (rv s.z) (ap (λ (z : ℕ). nat z) pow1) (unit-rv false) f0-pair in
+    let plain = fix (nat (U ^ 1)) (rv f1) (rv f0) (rv c) x (rv s.z) (ap (λ (z : ℕ). nat z) pow1) (unit_rv false) f0_pair in
     let b' : Bd 1 (rv c ⊞ inv (inv x)) k = bd_unsc 1 1 (rv c ⊞ inv (inv x)) k (subst (λ (z : ℕ). Q * z ≤ k * U ^ 2) plain b) in
     let size = ab-inv x ∙ size-mag s.x in
     (bd_upto 3 c (mg (limits fives) cy) t.fin t.most (lit≤ tt), kept c (inv x) (mag s.x) k size b' (lit≤ tt))
@@ -390,16 +390,16 @@ cross_y s h =
     fix : (u o n c y z : R) → u ≡ nat U → o ≡ nat U → n ≡ nat 0 → ab (u ⊠ c ⊞ inv (z ⊠ n ⊞ inv (y ⊠ o))) ≡ ab (u ⊠ (c ⊞ inv (inv y)))
     fix u o n c y z p q r =
         let left = va 0 ⋆ va 1 ∔ minus (va 3 ⋆ li 0 ∔ minus (va 2 ⋆ va 0)) in
-        rw (p, q, r) (ab-poly (nat U ∷ c ∷ y ∷ z ∷ []) left (va 0 ⋆ (va 1 ∔ minus (minus (va 2)))) tt)
+        rw (p, q, r) (ab_poly (nat U ∷ c ∷ y ∷ z ∷ []) left (va 0 ⋆ (va 1 ∔ minus (minus (va 2)))) tt)
 
 cross_z : (s : Vec3) → Unitary s → Upto 1 (cross s Z).z
 unfolding closed tame mg cz cross
 cross_z s h = expression 1 (five s) fives cz (five_sized s h) tt tt (lit≤ tt)
 
 -- the tangent's parts are at most 2 in size
-tangent-span : (s : Vec3) → Raised s → Span 2 (tangent s)
+tangent_span : (s : Vec3) → Raised s → Span 2 (tangent s)
 unfolding tangent
-tangent-span s r = go (lt (f1 ⊖ s.z) epsilon) (away s.z r.unit.uz r.above)
+tangent_span s r = go (lt (f1 ⊖ s.z) epsilon) (away s.z r.unit.uz r.above)
   where
     go : (b : Bool) → (T (not b) → 17179869184 * mag s.z + U ≤ 17179869184 * U) → Span 2 (cond b X (normalize (cross s Z)))
     go true f = record { x = widen 1 2 f1 (lit≤ tt) f1_upto; y = widen 0 2 f0 (lit≤ tt) f0_upto; z = widen 0 2 f0 (lit≤ tt) f0_upto }
@@ -410,7 +410,7 @@ tangent-span s r = go (lt (f1 ⊖ s.z) epsilon) (away s.z r.unit.uz r.above)
         let ky = cross_y s h in
         let size : Span 3 v = record { x = kx.0; y = ky.0; z = widen 1 3 v.z (lit≤ tt) (cross_z s h) } in
         let some = which kx.1 ky.1 (side_of (mag s.x) (mag s.y) (mag s.z) (f tt) h.one) in
-        unit-span (normalize v) (unitary v (length_of 3 v (lit≤ tt) size some))
+        unit_span (normalize v) (unitary v (length_of 3 v (lit≤ tt) size some))
       where
         which : {A A' C C' E : Type 0} → (A → A') → (C → C') → C ⊎ A → A' ⊎ (C' ⊎ E)
         which f g (inl c) = inr (inl (g c))
@@ -424,7 +424,7 @@ disk_upto disk c s d =
     let high = lt-le disk f1 (and_r (le f0 disk) (lt disk f1) d.number) in
     let f : Fin disk = (le-finite f0 disk f1 tt tt low high, d.fits_disk) in
     let n = not_neg disk f low in
-    let size = go (P disk) (N disk) (P f1) (N f1) U (le_parts disk f1 f (unit-fin false) high) n f1-parts.0 f1-parts.1 in
+    let size = go (P disk) (N disk) (P f1) (N f1) U (le_parts disk f1 f (unit_fin false) high) n f1_parts.0 f1_parts.1 in
     (record { fin = f; size = le_trans (le_of_eq (sym (sum_mag disk))) size }, n)
   where
     go : (p n c d u : ℕ) → p + d ≤ c + n → n ≡ 0 → c ≡ u → d ≡ 0 → p + n ≤ 1 * u
@@ -474,9 +474,9 @@ disk_z_upto x y hx hy =
     (expression 251000 (f1 ∷ x ∷ y ∷ []) (1 ∷ 6 ∷ 500 ∷ []) (fv 0 -ᶠ fv 1 *ᶠ fv 1 -ᶠ fv 2 *ᶠ fv 2)
     (f1_upto, (hx, (hy, tt))) tt tt (lit≤ tt))
 
-hemisphere-span : (v : Vec3) (disk c s : Float) → Disk disk c s → Upto 2 v.z → Span 502003 (on_hemisphere v (sqrt disk) c s)
+hemisphere_span : (v : Vec3) (disk c s : Float) → Disk disk c s → Upto 2 v.z → Span 502003 (on_hemisphere v (sqrt disk) c s)
 unfolding on_hemisphere
-hemisphere-span v disk c s d hz =
+hemisphere_span v disk c s d hz =
     let k = disk_upto disk c s d in
     let p = pair_upto disk c s d in
     let r = sqrt disk in
@@ -491,9 +491,9 @@ hemisphere-span v disk c s d hz =
 abbrev six : Vec3 → Vec3 → List Float
 six t v = t.x ∷ t.y ∷ t.z ∷ v.x ∷ v.y ∷ v.z ∷ []
 
-second-span : (t v : Vec3) → Span 2 t → Span 2 v → Span 9 (cross t v)
+second_span : (t v : Vec3) → Span 2 t → Span 2 v → Span 9 (cross t v)
 unfolding closed tame mg cross
-second-span t v ht hv =
+second_span t v ht hv =
     let sized : Sized (six t v) (2 ∷ 2 ∷ 2 ∷ 2 ∷ 2 ∷ 2 ∷ []) = (ht.x, (ht.y, (ht.z, (hv.x, (hv.y, (hv.z, tt)))))) in
     record {
       x = expression 9 (six t v) (2 ∷ 2 ∷ 2 ∷ 2 ∷ 2 ∷ 2 ∷ []) (fv 1 *ᶠ fv 5 -ᶠ fv 2 *ᶠ fv 4) sized tt tt (lit≤ tt);
@@ -509,11 +509,11 @@ mixed a b c t u v ha hb hc ht hu hv =
     (fv 0 *ᶠ fv 3 +ᶠ fv 1 *ᶠ fv 4 +ᶠ fv 2 *ᶠ fv 5)
     (ha, (hb, (hc, (ht, (hu, (hv, tt)))))) tt tt (lit≤ tt)
 
-combined-span : (t v p : Vec3) → Span 2 t → Span 2 v → Span 502003 p → Span 7000000 (combined t v p)
+combined_span : (t v p : Vec3) → Span 2 t → Span 2 v → Span 502003 p → Span 7000000 (combined t v p)
 unfolding combined add float_mul
-combined-span t v p ht hv hp =
+combined_span t v p ht hv hp =
     let u = cross t v in
-    let hu = second-span t v ht hv in
+    let hu = second_span t v ht hv in
     record {
       x = mixed p.x p.y p.z t.x u.x v.x hp.x hp.y hp.z ht.x hu.x hv.x;
       y = mixed p.x p.y p.z t.y u.y v.y hp.x hp.y hp.z ht.y hu.y hv.y;
@@ -549,9 +549,9 @@ roughened : (r m : Float) → RoughPart r → Upto 7000000 m → Upto 7000001 (r
 unfolding closed tame mg
 roughened r m hr hm = expression 7000001 (r ∷ m ∷ []) (1 ∷ 7000000 ∷ []) (fv 0 *ᶠ fv 1) (hr.up, (hm, tt)) tt tt (lit≤ tt)
 
-unstretched-unitary : (a : Vec2) (m : Vec3) → Rough a → Span 7000000 m → Unitary (unstretched a m)
+unstretched_unitary : (a : Vec2) (m : Vec3) → Rough a → Span 7000000 m → Unitary (unstretched a m)
 unfolding unstretched
-unstretched-unitary a m h c =
+unstretched_unitary a m h c =
     let v = vec3 (a.x ⊗ m.x) (a.y ⊗ m.y) (max m.z epsilon) in
     let z = max_eps 7000000 m.z (lit≤ tt) c.z in
     let s : Span 7000001 v = record {
@@ -568,22 +568,22 @@ pub record Local (l : Vec3) : Type 0 where
   pub large : Large l.x ⊎ (Large l.y ⊎ Large l.z)
 
 pub local_of : (n d : Vec3) → Direction n → Direction d → Local (to_local (basis n) d)
-local_of n d hn hd = record { sizes = local-tame n d hn hd; large = local-large n d hn hd }
+local_of n d hn hd = record { sizes = local_tame n d hn hd; large = local_large n d hn hd }
 
-pub local-span : (l : Vec3) → Local l → Span 8 l
-local-span l h = record { x = tame_upto l.x h.sizes.0; y = tame_upto l.y h.sizes.1; z = tame_upto l.z h.sizes.2 }
+pub local_span : (l : Vec3) → Local l → Span 8 l
+local_span l h = record { x = tame_upto l.x h.sizes.0; y = tame_upto l.y h.sizes.1; z = tame_upto l.z h.sizes.2 }
 
 -- the direction in the hemisphere's configuration, on Z's side
-pub viewed-raised : (a : Vec2) (l : Vec3) → Rough a → Local l → Raised (viewed a l)
+pub viewed_raised : (a : Vec2) (l : Vec3) → Rough a → Local l → Raised (viewed a l)
 unfolding viewed stretched
-viewed-raised a l h k = raised (normalize (squeezed a l)) (unitary (squeezed a l) (squeezed-unit a l h k.sizes k.large))
+viewed_raised a l h k = raised (normalize (squeezed a l)) (unitary (squeezed a l) (squeezed_unit a l h k.sizes k.large))
 
 pub sampled-normal : (a : Vec2) (l : Vec3) (disk c s : Float) → Rough a → Local l → Disk disk c s → Unitary (sample_normal a l disk c s)
 unfolding sample_normal
 sampled-normal a l disk c s h k d =
     let v = viewed a l in
-    let r = viewed-raised a l h k in
+    let r = viewed_raised a l h k in
     let t = tangent v in
     let p = on_hemisphere v (sqrt disk) c s in
-    let size = combined-span t v p (tangent-span v r) (unit-span v r.unit) (hemisphere-span v disk c s d r.unit.uz) in
-    unstretched-unitary a (combined t v p) h size
+    let size = combined_span t v p (tangent_span v r) (unit_span v r.unit) (hemisphere_span v disk c s d r.unit.uz) in
+    unstretched_unitary a (combined t v p) h size

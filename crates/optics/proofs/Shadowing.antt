@@ -15,8 +15,8 @@ use lib.Ieee.{Float, nan, inf, fin, Format, binary64, unlike, up, down, level, n
 use lib.Ieee.Fits.{and_i, eq→eqb, add-fits, mul-fits, div-fits, sub-fits}
 use lib.Ieee.Scale.{finite}
 use Rattle.floats.proofs.Rounding.{rnd, below_or_from}
-use Rattle.floats.proofs.Rounding.Units.{U, O, U_pos, U_O, Is, is_of, mag, either, units_pos, zero-units}
-use Rattle.floats.proofs.Rounding.NonNegative.{Ext, Fine, ext_le, finite_ext, nil_ext, unit_ext, mul_ext, div_ext, sub-fine, add_ext, fine_under, U_held, rnd-ge, rnd-le, fine_pos, ext_pos, unit-fine}
+use Rattle.floats.proofs.Rounding.Units.{U, O, U_pos, U_O, Is, is_of, mag, either, units_pos, zero_units}
+use Rattle.floats.proofs.Rounding.NonNegative.{Ext, Fine, ext_le, finite_ext, nil_ext, unit_ext, mul_ext, div_ext, sub-fine, add_ext, fine_under, U_held, rnd-ge, rnd-le, fine_pos, ext_pos, unit_fine}
 use Rattle.floats.proofs.Rounding.Monotone.{size_of, recip-le, ratio}
 use Rattle.floats.proofs.Rounding.Error.{Fin, P, N}
 use Rattle.floats.proofs.square_root.WholeRoot.{RootErr}
@@ -28,7 +28,7 @@ use Rattle.numbers.specs.SphericalUtils.{cos2_theta, sin2_theta, tan2_theta, sin
 use Rattle.numbers.specs.declared.vec2.Vec2.{Vec2}
 use Rattle.numbers.specs.declared.vec3.Vec3.{Vec3}
 use Rattle.optics.specs.Facets.{alpha2, lambda_of, lambda, chi_pass, masked, g1, g, g_over_g1}
-use Rattle.floats.proofs.Rounding.Sizes.{Upto, Held, held_power, Number, div-number, widen, expression, f0_upto, f1_upto, f_1_upto, f2-units, upto_one, not_neg, nlt_parts, ext_N, NonNeg, max-zero, root_upto, fine_N, Pos, pos_of}
+use Rattle.floats.proofs.Rounding.Sizes.{Upto, Held, held_power, Number, div-number, widen, expression, f0_upto, f1_upto, f_1_upto, f2_units, upto_one, not_neg, nlt_parts, ext_N, NonNeg, max-zero, root_upto, fine_N, Pos, pos_of}
 use Rattle.numbers.proofs.vec3.Span.{Span}
 use Rattle.floats.proofs.square_root.RootOrZero.{rooted}
 use Rattle.floats.proofs.Rounding.Shares.{Share, f0-share}
@@ -123,7 +123,7 @@ unfolding div is_infinite
 zero-div nan y n i p f q = absurd i
 zero-div (inf s) y n i p f q = absurd i
 zero-div (fin true m e) y n i p f q = absurd (true≢false i.0)
-zero-div (fin false zero e) y n i p f q = absurd (zero-units n e p i.1)
+zero-div (fin false zero e) y n i p f q = absurd (zero_units n e p i.1)
 zero-div (fin false (suc m) e) nan n i p f q = absurd f.0
 zero-div (fin false (suc m) e) (inf s) n i p f q = absurd f.0
 zero-div (fin false (suc m) e) (fin t zero d) n i p f q = go (eqb (suc m) 0) (eqb→eq (suc m) 0)
@@ -142,7 +142,7 @@ sin2_is_one w c m0 =
     let c2 = cos2_theta w in
     let d = f1 ⊖ c2 in
     let fine-c = fine_N c2 c.fin c.zero_N in
-    let e : Ext d (rnd 53 (U - mag c2) 1) = sub-fine f1 c2 U (mag c2) unit-fine fine-c (le_trans (le_of_eq m0) zero-le) in
+    let e : Ext d (rnd 53 (U - mag c2) 1) = sub-fine f1 c2 U (mag c2) unit_fine fine-c (le_trans (le_of_eq m0) zero-le) in
     let whole = ap (λ (n : ℕ). rnd 53 (U - n) 1) m0 ∙ ap (λ (n : ℕ). rnd 53 n 1) (omega arith) ∙ U_held.0 in
     let e' : Ext d U = subst (λ (n : ℕ). Ext d n) whole e in
     let i : Is d false U = fine_pos d U (fine_under d U e' U_O) U_pos in
@@ -235,7 +235,7 @@ unfolding max is_nan square_root sub add neg div lt
 inf_grown = refl
 
 two_fine : Fine f2 (2 * U)
-two_fine = (false, (refl, f2-units), refl)
+two_fine = (false, (refl, f2_units), refl)
 
 grown_ext : (t : Float) (p : ℕ) → Ext t p → FromZero (lambda_of t)
 unfolding lambda_of
@@ -262,7 +262,7 @@ grown_ext t p e = go (add_ext f1 t U p unit_ext e)
         let ρ = mag x in
         let held = (is_of x r.fin.0 r.fin.1).1 in
         let δ = rnd 53 (ρ - U) 1 in
-        let d : Ext (x ⊖ f1) δ = sub-fine x f1 ρ U (false, r.is, refl) unit-fine (root_ge n ρ r.err ge) in
+        let d : Ext (x ⊖ f1) δ = sub-fine x f1 ρ U (false, r.is, refl) unit_fine (root_ge n ρ r.err ge) in
         let dO : δ < O = lt_of_le_of_lt (rnd-le ρ (ρ - U) 1 (lit< tt) held.0 (less ρ U)) held.1 in
         rw r.kept (rnd 53 (δ * U) (2 * U), div_ext (x ⊖ f1) f2 δ (2 * U) (fine_under (x ⊖ f1) δ d dO) two_fine (mul-pos (lit< tt) U_pos))
       where

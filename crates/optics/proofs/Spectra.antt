@@ -15,14 +15,14 @@ use lib.Ieee.Fits.{and_l, and_r, and_i, eq→eqb, div-fits, sub-fits}
 use Rattle.floats.proofs.Rounding.{rnd}
 use Rattle.floats.proofs.Rounding.Units.{U, O, U_pos, U_O, either}
 use Rattle.floats.proofs.Rounding.NonNegative.{Ext, Fine, mul_ext, add_ext, nil_ext, fine_of, rnd-zero, share_of}
-use Rattle.numbers.proofs.dense_spectrum.Interpolation.{Read, Index, read_index, AllFit, Place, range_of, Table, table_of, table_place, sample_index, wave-in_table}
+use Rattle.numbers.proofs.dense_spectrum.Interpolation.{Read, Index, read_index, AllFit, Place, range_of, Table, table_of, table_place, sample_index, wave_in_table}
 use Rattle.floats.proofs.Rounding.Shares.{shares}
 use Rattle.floats.specs.Float.{◌⊕◌, ◌⊖◌, ◌⊗◌, f0, f1, decimal, within}
 use Rattle.numbers.specs.DenseSpectrum.{step_of, is_table, one_spacing, terminated, entry, interpolate, upper_point, upper_lambda, upper_weight, sample_one_at, sample_one, all_within, is_wavelength}
 use Rattle.optics.specs.F64.{AllF64}
 use Rattle.optics.specs.Surface.{eta_min, eta_max, eta_holds, all_zero, k_entries_hold, k_holds, eta_from, k_from, eta_at, k_at}
 use Rattle.optics.specs.declared.microfacet.{Kind.Kind, Kind.TheVariants.Glass}
-use Rattle.floats.proofs.Rounding.Sizes.{f0_upto, f0-parts, fine_N}
+use Rattle.floats.proofs.Rounding.Sizes.{f0_upto, f0_parts, fine_N}
 use Rattle.numbers.proofs.dense_spectrum.Every.{entry-every}
 use Rattle.numbers.proofs.dense_spectrum.Spacing.{shared_step}
 
@@ -47,7 +47,7 @@ unfolding eta_holds eta_min eta_at eta_from sample_one
 eta_read eta lambda all holds f w =
     let table = and_l (is_table eta) (all_within (decimal 1 100) eta_max eta) holds in
     let limits = and_r (is_table eta) (all_within (decimal 1 100) eta_max eta) holds in
-    sample_index lambda eta f (wave-in_table lambda w) table all (subst (λ (hi : Float). T (all_within (decimal 1 100) hi eta)) max_is limits)
+    sample_index lambda eta f (wave_in_table lambda w) table all (subst (λ (hi : Float). T (all_within (decimal 1 100) hi eta)) max_is limits)
 
 pub eta-index : (eta : List Float) (lambda : Float) → AllFit eta → T (eta_holds eta) → T (fits B lambda) → T (is_wavelength lambda)
     → Index (eta_at eta lambda)
@@ -83,17 +83,17 @@ unfolding within
 zero-entry x f h =
     let low = and_l (le f0 x) (le x f0) h in
     let high = and_r (le f0 x) (le x f0) h in
-    let r = range_of f0 f0 x f0_upto.fin f0_upto.fin f0-parts.1 f0-parts.1 f low high in
-    subst (λ (n : ℕ). Fine x n) (omega (arith, le_trans r.high (le_of_eq f0-parts.2))) (fine_N x r.fin r.above)
+    let r = range_of f0 f0 x f0_upto.fin f0_upto.fin f0_parts.1 f0_parts.1 f low high in
+    subst (λ (n : ℕ). Fine x n) (omega (arith, le_trans r.high (le_of_eq f0_parts.2))) (fine_N x r.fin r.above)
 
 zero-product : (i y : Float) (b : ℕ) → Fine i 0 → Fine y b → Zero (i ⊗ y)
 zero-product i y b hi hy =
     let p = mul-pos U_pos U_pos in
     subst (λ (n : ℕ). Ext (i ⊗ y) n) (ap (λ (n : ℕ). rnd 53 n (U * U)) (omega arith) ∙ rnd-zero (U * U) p) (mul_ext i y 0 b hi hy)
 
-zero-between : (x i₀ i₁ : Float) → T (fits B x) → T (le f0 x) → T (le x f1) → Fine i₀ 0 → Fine i₁ 0 → Zero (interpolate x i₀ i₁)
+zero_between : (x i₀ i₁ : Float) → T (fits B x) → T (le f0 x) → T (le x f1) → Fine i₀ 0 → Fine i₁ 0 → Zero (interpolate x i₀ i₁)
 unfolding interpolate
-zero-between x i₀ i₁ f low high h₀ h₁ =
+zero_between x i₀ i₁ f low high h₀ h₁ =
     let s = shares x f low high in
     let y = f1 ⊖ x in
     let a = share_of x f low high in
@@ -113,7 +113,7 @@ zero_sample k w all table z f h = ended (eq w terminated)
     step = step_of k
 
     place : Place step w t.n
-    place = table_place w k t f (wave-in_table w h)
+    place = table_place w k t f (wave_in_table w h)
 
     j : ℕ
     j = upper_point step w
@@ -135,7 +135,7 @@ zero_sample k w all table z f h = ended (eq w terminated)
     between false e =
         let s = place.weight (place.inner e) in
         let fx = div-fits B (w ⊖ (upper_lambda step w ⊖ step)) step in
-        zero-between x (entry k (j - 1)) (entry k j) fx s.1 s.2 (at (j - 1) (below j t.n place.last)) (at j place.last)
+        zero_between x (entry k (j - 1)) (entry k j) fx s.1 s.2 (at (j - 1) (below j t.n place.last)) (at j place.last)
 
     ended : (b : Bool) → Zero (cond b f0 (cond (eq w (upper_lambda step w)) (entry k j) (interpolate x (entry k (j - 1)) (entry k j))))
     ended true = nil_ext

@@ -38,14 +38,14 @@ module _ (m : Microsurface) (h : SameInAir m) where
     unfolding leading_index
     eta-same = same_index m h _
 
-    facet-on : (kind : Kind) → facet_of kind m lambda b ≡ facet_of kind (in_air m) lambda b
+    facet_on : (kind : Kind) → facet_of kind m lambda b ≡ facet_of kind (in_air m) lambda b
     unfolding facet_of
-    facet-on Metal = refl
-    facet-on Glass = rw eta-same
+    facet_on Metal = refl
+    facet_on Glass = rw eta-same
 
     facet-same : facet m lambda b ≡ facet (in_air m) lambda b
     unfolding facet
-    facet-same = facet-on m.kind
+    facet-same = facet_on m.kind
 
     fresnel-same : (wavelength : Float) → fresnel_at m lambda b wavelength ≡ fresnel_at (in_air m) lambda b wavelength
     unfolding fresnel_at
@@ -112,15 +112,15 @@ module _ (m : Microsurface) (h : SameInAir m) where
   unfolding advanced
   advanced-same p b = rw (lambda-same p.lambda, weights-same (lambda_on (in_air m) p.lambda) b)
 
-  on-surface-same : (p : Path) (b : Bounce) → on_surface p m b ≡ on_surface p (in_air m) b
+  on_surface_same : (p : Path) (b : Bounce) → on_surface p m b ≡ on_surface p (in_air m) b
   unfolding on_surface
-  on-surface-same p b =
+  on_surface_same p b =
       let lambda = lambda_on (in_air m) p.lambda in
       rw (advanced-same p b, lambda-same p.lambda, scatter-same lambda b) (worked_same lambda b (scatter (in_air m) lambda b) (advanced p (in_air m) b))
 
   bounce-same : (p : Path) (b : Bounce) → bounce p m b ≡ bounce p (in_air m) b
   unfolding bounce
-  bounce-same p b = rw (check-same p b, on-surface-same p b)
+  bounce-same p b = rw (check-same p b, on_surface_same p b)
 
   reckoned-same : (p : Path) (b : Bounce) → reckon p m b ≡ reckon p (in_air m) b
   unfolding reckon

@@ -4,7 +4,7 @@ use Rattle.std.proofs.Common.{◌≡◌, T}
 use Rattle.numbers.specs.Vec3.{is_direction}
 use Rattle.numbers.specs.Refusal.{accepted}
 use Rattle.numbers.specs.Checked.{check_direction}
-use Rattle.numbers.proofs.refusal.Checks.{test-passed, first_passed, next_passed}
+use Rattle.numbers.proofs.refusal.Checks.{test_passed, first_passed, next_passed}
 use Rattle.optics.specs.Surface.{Microsurface, roughness_holds, eta_holds, k_holds, outer_holds}
 use Rattle.optics.specs.Check.{check_spectra, check_surface, check_random, check_circle_pair, is_random, is_circle_pair}
 use Rattle.optics.specs.Color.{all4}
@@ -42,17 +42,17 @@ accepted_of p m b h₀ =
     let h₃ = first_passed _ _ h₄ in
     let h₂ = first_passed _ _ h₃ in
     record {
-      roughness = test-passed 1 _ (first_passed _ _ s);
-      eta = test-passed 2 _ (first_passed _ _ (first_passed _ _ spectra));
-      k = test-passed 3 _ (next_passed _ _ (first_passed _ _ spectra));
-      outer = test-passed 13 _ (next_passed _ _ spectra);
-      lambda = test-passed 4 _ (first_passed _ _ h₂);
-      power = test-passed 10 _ (next_passed _ _ h₂);
-      wo = test-passed 5 _ (next_passed _ _ h₃);
-      normal = test-passed 5 _ (next_passed _ _ h₄);
-      u = test-passed 6 _ (next_passed _ _ h₅);
-      disk = test-passed 6 _ (next_passed _ _ h₆);
-      pair = test-passed 7 _ (next_passed _ _ h₇);
-      ks = test-passed 8 _ (next_passed _ _ h₈);
-      tf = test-passed 8 _ (next_passed _ _ h₉);
+      roughness = test_passed 1 _ (first_passed _ _ s);
+      eta = test_passed 2 _ (first_passed _ _ (first_passed _ _ spectra));
+      k = test_passed 3 _ (next_passed _ _ (first_passed _ _ spectra));
+      outer = test_passed 13 _ (next_passed _ _ spectra);
+      lambda = test_passed 4 _ (first_passed _ _ h₂);
+      power = test_passed 10 _ (next_passed _ _ h₂);
+      wo = test_passed 5 _ (next_passed _ _ h₃);
+      normal = test_passed 5 _ (next_passed _ _ h₄);
+      u = test_passed 6 _ (next_passed _ _ h₅);
+      disk = test_passed 6 _ (next_passed _ _ h₆);
+      pair = test_passed 7 _ (next_passed _ _ h₇);
+      ks = test_passed 8 _ (next_passed _ _ h₈);
+      tf = test_passed 8 _ (next_passed _ _ h₉);
     }

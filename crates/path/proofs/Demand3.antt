@@ -31,7 +31,7 @@ use Rattle.path.specs.Answer.{Outcome, outcome, density_of, density, shares_on, 
 use Rattle.path.specs.Demand3.{F64, ColorF64, Step, StepF64, AllFell, SharesHold, DensityHolds, AnswerHolds, Run, end, bounced, Throughout, Demand3, NeverTotal}
 use Rattle.path.proofs.Checks.{accepted_of}
 use Rattle.path.proofs.Weights.{Weight, whole, weighed_down, weight_from_lem}
-use Rattle.path.proofs.Sampled.{Given, leading-fits, leading-in, shares-hold, never-total, shadowing-weight}
+use Rattle.path.proofs.Sampled.{Given, leading-fits, leading_in, shares_hold, never_total, shadowing-weight}
 
 -- ---- a path between bounces: wavelengths of binary64, and powers from 0 to 1
 pub record Weights4 (a : Color) : Type 0 where
@@ -134,14 +134,14 @@ module _ (p : Path) (m : Microsurface) (b : Bounce) (r : Ready p) (h : Given p m
       let l = lowered p.power (weights m (lambda_on m p.lambda) b) r.power weights4 in
       (l.0, record { lambda = lambda-fits m p.lambda r.lambda; power = l.1 })
 
-  shares-on : (kind : Kind) → m.kind ≡ kind → SharesHold kind (shares_on kind (share m (lambda_on m p.lambda) b))
+  shares_on_lem : (kind : Kind) → m.kind ≡ kind → SharesHold kind (shares_on kind (share m (lambda_on m p.lambda) b))
   unfolding shares_on rest
-  shares-on Metal e = tt
-  shares-on Glass e = let s = shares-hold p m b h e in (refl, (s.first.1, s.first.2), (s.second.1, s.second.2), s.whole)
+  shares_on_lem Metal e = tt
+  shares_on_lem Glass e = let s = shares_hold p m b h e in (refl, (s.first.1, s.first.2), (s.second.1, s.second.2), s.whole)
 
   shares_of : SharesHold m.kind (shares m (lambda_on m p.lambda) b)
   unfolding shares
-  shares_of = shares-on m.kind refl
+  shares_of = shares_on_lem m.kind refl
 
   density-holds : (wi : Vec3) (reflection : Bool) → DensityHolds (density m (lambda_on m p.lambda) b wi reflection)
   unfolding density density_of
@@ -158,7 +158,7 @@ module _ (p : Path) (m : Microsurface) (b : Bounce) (r : Ready p) (h : Given p m
           let t = subst T (sym e) tt in (
             t,
             density_not_below m (local_wo b) wi reflection lambda (all_fit m.eta h.step.eta) (all_fit m.k h.step.k) (outer_fit m.outside h.step.outer)
-                (leading-fits p m b h) h.ok.eta h.ok.k h.ok.outer (leading-in p m b h) t,
+                (leading-fits p m b h) h.ok.eta h.ok.k h.ok.outer (leading_in p m b h) t,
           )
       go false e = tt
 
@@ -175,9 +175,9 @@ module _ (p : Path) (m : Microsurface) (b : Bounce) (r : Ready p) (h : Given p m
   worked_kept totally = record { powers = advanced-fell.0; product = refl; answer = shares_of; ready = advanced-fell.1 }
 
 -- ---- any bounce
-bounce-kept : (p : Path) (s : Step) → StepF64 s → Ready p → Kept p s.surface.kind (bounce p s.surface s.bounce) (reckon p s.surface s.bounce)
+bounce_kept : (p : Path) (s : Step) → StepF64 s → Ready p → Kept p s.surface.kind (bounce p s.surface s.bounce) (reckon p s.surface s.bounce)
 unfolding bounce reckon on_surface answered unless_refused path_of
-bounce-kept p s f r = go (check_bounce p m b) refl
+bounce_kept p s f r = go (check_bounce p m b) refl
   where
     m : Microsurface
     m = s.surface
@@ -197,7 +197,7 @@ throughout p r (bounced s f a c q e run) =
     let m = s.surface in
     let b = s.bounce in
     let k : Kept p m.kind (outcome a) (reckon p m b) =
-    subst (λ (o : Outcome). Kept p m.kind o (reckon p m b)) (sym c) (bounce-kept p s f r) in
+    subst (λ (o : Outcome). Kept p m.kind o (reckon p m b)) (sym c) (bounce_kept p s f r) in
     let next : q ≡ reckon p m b = e ∙ k.product in
     let rest : Throughout q run = throughout q (subst Ready (sym e) k.ready) run in (
       record {
@@ -213,7 +213,7 @@ unfolding Demand3
 demand_3 lambda f run = throughout (path lambda ones) (start_ready lambda f) run
 
 -- ---- total reflection is never met
-pub never_meets-total : NeverTotal
+pub never_meets_total : NeverTotal
 unfolding NeverTotal
-never_meets-total p s lambda f e t =
-    never-total p s.surface s.bounce (record { step = f; lambda = lambda; ok = accepted_of p s.surface s.bounce e }) t
+never_meets_total p s lambda f e t =
+    never_total p s.surface s.bounce (record { step = f; lambda = lambda; ok = accepted_of p s.surface s.bounce e }) t

@@ -1,5 +1,5 @@
--- What a bounce that isn't refused answers, from what its stages gave, one after the other: on metal (`metal_backface`, `metal-lost`, `metal-sent`)
--- and on glass (`glass-lost`, `glass-sent`). The stages are variables here, so that a definition is opened where it is small.
+-- What a bounce that isn't refused answers, from what its stages gave, one after the other: on metal (`metal_backface`, `metal_lost`, `metal_sent`)
+-- and on glass (`glass_lost`, `glass_sent`). The stages are variables here, so that a definition is opened where it is small.
 use Rattle.std.proofs.Common.{◌≡◌, Bool, true, false, cond, List, ap, ◌∙◌}
 use lib.Ieee.{Float}
 use Rattle.floats.specs.Float.{f0}
@@ -39,17 +39,17 @@ pub metal_backface : (p : Path) (a : Vec2) (eta k : List Float) (o : Outside) (b
 unfolding on_surface lambda_on left_on scatter scatter_on shares shares_on advanced weights weights_from worked weight_from
 metal_backface p a eta k o b e = rw e
 
-pub metal-lost : (p : Path) (a : Vec2) (eta k : List Float) (o : Outside) (b : Bounce) → b.backface ≡ false
+pub metal_lost : (p : Path) (a : Vec2) (eta k : List Float) (o : Outside) (b : Bounce) → b.backface ≡ false
     → (u : Onb) → u ≡ basis b.normal
     → (wo : Vec3) → wo ≡ to_local u b.wo
     → (wh : Vec3) → wh ≡ conductor_normal a wo b.disk b.c b.s
     → (s : Sampled) → sampled s ≡ conductor_from a wo wh → Directionless s
     → on_surface p (metal a eta k o) b ≡ lost None (path p.lambda (weighed p.power dark))
 unfolding on_surface lambda_on left_on scatter scatter_on local_wo facet facet_of shares shares_on advanced weights
-metal-lost p a eta k o b front u eu wo ewo wh ewh s es none =
+metal_lost p a eta k o b front u eu wo ewo wh ewh s es none =
     rw (front, ← eu, ← ewo, ← ewh, ← es, no_weights s none, no_direction s none)
 
-pub metal-sent : (p : Path) (a : Vec2) (eta k : List Float) (o : Outside) (b : Bounce) → b.backface ≡ false
+pub metal_sent : (p : Path) (a : Vec2) (eta k : List Float) (o : Outside) (b : Bounce) → b.backface ≡ false
     → (u : Onb) → u ≡ basis b.normal
     → (wo : Vec3) → wo ≡ to_local u b.wo
     → (wh : Vec3) → wh ≡ conductor_normal a wo b.disk b.c b.s
@@ -58,7 +58,7 @@ pub metal-sent : (p : Path) (a : Vec2) (eta k : List Float) (o : Outside) (b : B
     ≡ reflected (to_world u wi) (density_of (conductor_pdf a wo wi)) None (path p.lambda (weighed p.power
     (weights_of p.lambda (each2 metal_filter b.ks (f Metal eta k o wo wh p.lambda)) (shadowing (is_delta a) a wo wi wh))))
 unfolding on_surface lambda_on left_on scatter scatter_on local_wo facet facet_of shares shares_on advanced weights weights_from weights_of worked weight_from branch_of density pdf pdf_of filter fresnel_at shadowing_on one_direction sampled f index_at
-metal-sent p a eta k o b front u eu wo ewo wh ewh s es wi r es' =
+metal_sent p a eta k o b front u eu wo ewo wh ewh s es wi r es' =
     rw (front, ← eu, ← ewo, ← ewh, ← es, es', metal-reflects a wo wh wi r s es es', ← eu, ← ewo, ← ewh)
 
 -- ---- glass, its index n and its absorption x at the leading wavelength that is left
@@ -70,7 +70,7 @@ pub left_from : (known : Known) (eta outer : List Float) (lambda : Color) → kn
 unfolding left_on_glass known_on_glass
 left_from known eta outer lambda c l e = e ∙ ap (λ (x : Known). cond x.eta_constant lambda (terminate lambda)) c
 
-pub glass-lost : (p : Path) (a : Vec2) (eta k : List Float) (o : Outside) (b : Bounce)
+pub glass_lost : (p : Path) (a : Vec2) (eta k : List Float) (o : Outside) (b : Bounce)
     → (l : Color) → l ≡ left_on_glass eta o p.lambda
     → (wl : Float) → wl ≡ leading l → (n : Float) → n ≡ index_on Glass eta o wl → (x : Float) → x ≡ k_at eta k wl
     → (u : Onb) → u ≡ basis b.normal
@@ -80,10 +80,10 @@ pub glass-lost : (p : Path) (a : Vec2) (eta k : List Float) (o : Outside) (b : B
     → (s : Sampled) → sampled s ≡ dielectric_from n F b.u wo wh → Directionless s
     → on_surface p (glass a eta k o) b ≡ lost (Of F (rest F)) (path l (weighed p.power dark))
 unfolding on_surface lambda_on left_on scatter scatter_on local_wo leading_index facet facet_of share fresnel_at shares shares_on advanced weights index_at
-glass-lost p a eta k o b l el wl ewl n en x ex u eu wo ewo wh ewh F eF s es none =
+glass_lost p a eta k o b l el wl ewl n en x ex u eu wo ewo wh ewh F eF s es none =
     rw (← el, ← ewl, ← en, ← ex, ← eu, ← ewo, ← ewh, ← eF, ← es, no_weights s none, no_direction s none, ← ewl, ← en, ← ex, ← eu, ← ewo, ← ewh, ← eF)
 
-pub glass-sent : (p : Path) (a : Vec2) (eta k : List Float) (o : Outside) (b : Bounce)
+pub glass_sent : (p : Path) (a : Vec2) (eta k : List Float) (o : Outside) (b : Bounce)
     → (l : Color) → l ≡ left_on_glass eta o p.lambda
     → (wl : Float) → wl ≡ leading l → (n : Float) → n ≡ index_on Glass eta o wl → (x : Float) → x ≡ k_at eta k wl
     → (u : Onb) → u ≡ basis b.normal
@@ -95,5 +95,5 @@ pub glass-sent : (p : Path) (a : Vec2) (eta k : List Float) (o : Outside) (b : B
     ≡ branch_of r (to_world u wi) (density_of (dielectric_pdf a n x r wo wi)) (Of F (rest F)) (path l (weighed p.power
     (weights_of l (each2 (cond r) b.ks b.tf) (shadowing (is_smooth a n) a wo wi wh))))
 unfolding on_surface lambda_on left_on scatter scatter_on local_wo leading_index facet facet_of share fresnel_at shares shares_on advanced weights weights_from weights_of worked weight_from density pdf pdf_of filter shadowing_on one_direction sampled index_at
-glass-sent p a eta k o b l el wl ewl n en x ex u eu wo ewo wh ewh F eF s es wi r es' =
+glass_sent p a eta k o b l el wl ewl n en x ex u eu wo ewo wh ewh F eF s es wi r es' =
     rw (← el, ← ewl, ← en, ← ex, ← eu, ← ewo, ← ewh, ← eF, ← es, es', ← ewl, ← en, ← ex, ← eu, ← ewo, ← ewh, ← eF)

@@ -1,5 +1,5 @@
--- What is sampled at an accepted bounce: local wo and the facet's normal are finite and near unit length (`local-wo`, `facet-unitary`), a bend never answers "total" (`never-total`),
--- a sampled direction is finite (`direction-span`), so that the shadowing q is a weight (`shadowing-weight`), and on glass the shares lie from 0 to 1 and add up to 1 exactly (`shares-hold`).
+-- What is sampled at an accepted bounce: local wo and the facet's normal are finite and near unit length (`local_wo_lem`, `facet_unitary`), a bend never answers "total" (`never_total`),
+-- a sampled direction is finite (`direction_span`), so that the shadowing q is a weight (`shadowing-weight`), and on glass the shares lie from 0 to 1 and add up to 1 exactly (`shares_hold`).
 -- Each is a law of optics, for the fields that the checks passed.
 use Rattle.std.proofs.Common.{◌≡◌, Bool, true, false, cond, T, List, refl, subst, lit≤}
 use lib.Ieee.{Float, binary64, fits, lt, le, eq}
@@ -21,9 +21,9 @@ use Rattle.optics.specs.declared.microfacet.Kind.{Kind}
 use Rattle.optics.specs.declared.microfacet.Kind.TheVariants.{Metal, Glass}
 use Rattle.numbers.proofs.vec3.Span.{Span, widen3}
 use Rattle.floats.proofs.Rounding.Units.{each}
-use Rattle.optics.proofs.SampledNormal.{Rough, Disk, Local, local_of, local-span, Unitary, sampled-normal, z_unitary}
+use Rattle.optics.proofs.SampledNormal.{Rough, Disk, Local, local_of, local_span, Unitary, sampled-normal, z_unitary}
 use Rattle.optics.proofs.Fresnel.{reach}
-use Rattle.optics.proofs.Glass.{Shares, glass-shares, glass-never-total, glass-direction, metal-outcome, Outcome}
+use Rattle.optics.proofs.Glass.{Shares, glass-shares, glass_never_total, glass-direction, metal-outcome, Outcome}
 use Rattle.optics.proofs.Shadowing.{weight-share}
 use Rattle.optics.proofs.Spectra.{all_fit, glass-k-zero}
 use Rattle.optics.proofs.Outer.{outer_fit, index_in}
@@ -65,8 +65,8 @@ module _ (p : Path) (m : Microsurface) (b : Bounce) (h : Given p m b) where
   unfolding leading
   leading-fits = rw (leading_stays m p.lambda) h.lambda.0
 
-  pub leading-in : T (is_wavelength (leading (lambda_on m p.lambda)))
-  leading-in = rw (leading_stays m p.lambda) (in_range p.lambda h.ok.lambda)
+  pub leading_in : T (is_wavelength (leading (lambda_on m p.lambda)))
+  leading_in = rw (leading_stays m p.lambda) (in_range p.lambda h.ok.lambda)
 
   -- the directions, the roughness and the random numbers, as optics' laws take them
   wo-direction : Direction b.wo
@@ -82,47 +82,47 @@ module _ (p : Path) (m : Microsurface) (b : Bounce) (h : Given p m b) where
   disk = record { fits_disk = h.step.disk; fits_c = h.step.c; fits_s = h.step.s; number = h.ok.disk; pair = h.ok.pair }
 
   -- local wo, and the facet's normal
-  pub local-wo : Local (local_wo b)
+  pub local_wo_lem : Local (local_wo b)
   unfolding local_wo
-  local-wo = local_of b.normal b.wo normal-direction wo-direction
+  local_wo_lem = local_of b.normal b.wo normal-direction wo-direction
 
   sampled : Unitary (sample_normal m.roughness (local_wo b) b.disk b.c b.s)
-  sampled = sampled-normal m.roughness (local_wo b) b.disk b.c b.s rough local-wo disk
+  sampled = sampled-normal m.roughness (local_wo b) b.disk b.c b.s rough local_wo_lem disk
 
-  or-z : (z : Bool) → Unitary (cond z Z (sample_normal m.roughness (local_wo b) b.disk b.c b.s))
-  or-z true = z_unitary
-  or-z false = sampled
+  or_z : (z : Bool) → Unitary (cond z Z (sample_normal m.roughness (local_wo b) b.disk b.c b.s))
+  or_z true = z_unitary
+  or_z false = sampled
 
-  facet-on : (kind : Kind) → Unitary (facet_of kind m (lambda_on m p.lambda) b)
+  facet_on : (kind : Kind) → Unitary (facet_of kind m (lambda_on m p.lambda) b)
   unfolding facet_of conductor_normal dielectric_normal
-  facet-on Metal = or-z (is_delta m.roughness)
-  facet-on Glass = or-z (is_smooth m.roughness (leading_index m (lambda_on m p.lambda)))
+  facet_on Metal = or_z (is_delta m.roughness)
+  facet_on Glass = or_z (is_smooth m.roughness (leading_index m (lambda_on m p.lambda)))
 
-  pub facet-unitary : Unitary (facet m (lambda_on m p.lambda) b)
+  pub facet_unitary : Unitary (facet m (lambda_on m p.lambda) b)
   unfolding facet
-  facet-unitary = facet-on m.kind
+  facet_unitary = facet_on m.kind
 
   -- the index at the leading wavelength, and k, which glass has none of
   index : Index (leading_index m (lambda_on m p.lambda))
   unfolding leading_index
   index =
-      index_in m (leading (lambda_on m p.lambda)) (all_fit m.eta h.step.eta) (outer_fit m.outside h.step.outer) h.ok.eta h.ok.outer leading-fits leading-in
+      index_in m (leading (lambda_on m p.lambda)) (all_fit m.eta h.step.eta) (outer_fit m.outside h.step.outer) h.ok.eta h.ok.outer leading-fits leading_in
 
-  no-k : m.kind ≡ Glass → T (eq (k_at m.eta m.k (leading (lambda_on m p.lambda))) f0)
-  no-k g =
+  no_k : m.kind ≡ Glass → T (eq (k_at m.eta m.k (leading (lambda_on m p.lambda))) f0)
+  no_k g =
       glass-k-zero m.eta m.k (leading (lambda_on m p.lambda)) (all_fit m.k h.step.k)
-      (subst (λ (kind : Kind). T (k_holds kind m.eta m.k)) g h.ok.k) leading-fits leading-in
+      (subst (λ (kind : Kind). T (k_holds kind m.eta m.k)) g h.ok.k) leading-fits leading_in
 
   below_one : T (lt b.u f1)
   unfolding is_random
   below_one = and_r (le f0 b.u) (lt b.u f1) h.ok.u
 
   -- ---- glass: the shares
-  pub shares-hold : m.kind ≡ Glass → Shares (share m (lambda_on m p.lambda) b)
+  pub shares_hold : m.kind ≡ Glass → Shares (share m (lambda_on m p.lambda) b)
   unfolding share fresnel_at leading_index
-  shares-hold g =
+  shares_hold g =
       let lambda = lambda_on m p.lambda in
-      glass-shares (local_wo b) (facet m lambda b) (leading_index m lambda) (k_at m.eta m.k (leading lambda)) local-wo facet-unitary index (no-k g)
+      glass-shares (local_wo b) (facet m lambda b) (leading_index m lambda) (k_at m.eta m.k (leading lambda)) local_wo_lem facet_unitary index (no_k g)
 
   -- ---- metal: a backface loses the light
   metal-scattered : Outcome (scatter_on Metal m (lambda_on m p.lambda) b)
@@ -131,7 +131,7 @@ module _ (p : Path) (m : Microsurface) (b : Bounce) (h : Given p m b) where
     where
       go : (back : Bool) → Outcome (cond back lost (conductor_from m.roughness (local_wo b) (facet m (lambda_on m p.lambda) b)))
       go true = tt
-      go false = metal-outcome m.roughness (local_wo b) (facet m (lambda_on m p.lambda) b) local-wo facet-unitary
+      go false = metal-outcome m.roughness (local_wo b) (facet m (lambda_on m p.lambda) b) local_wo_lem facet_unitary
 
   -- ---- a bend never answers "total"
   never_on : (kind : Kind) → m.kind ≡ kind → scatter_on kind m (lambda_on m p.lambda) b ≡ totally → ⊥
@@ -139,23 +139,23 @@ module _ (p : Path) (m : Microsurface) (b : Bounce) (h : Given p m b) where
   never_on Metal e t = subst (λ (s : Scattered). Outcome s) t metal-scattered
   never_on Glass e t =
       let lambda = lambda_on m p.lambda in
-      glass-never-total (leading_index m lambda) (k_at m.eta m.k (leading lambda)) b.u (local_wo b) (facet m lambda b) index (no-k e) below_one local-wo facet-unitary t
+      glass_never_total (leading_index m lambda) (k_at m.eta m.k (leading lambda)) b.u (local_wo b) (facet m lambda b) index (no_k e) below_one local_wo_lem facet_unitary t
 
-  pub never-total : scatter m (lambda_on m p.lambda) b ≡ totally → ⊥
+  pub never_total : scatter m (lambda_on m p.lambda) b ≡ totally → ⊥
   unfolding scatter
-  never-total t = never_on m.kind refl t
+  never_total t = never_on m.kind refl t
 
   -- ---- a sampled direction is finite
-  span-on : (kind : Kind) → m.kind ≡ kind → (wi : Vec3) (reflection : Bool) → scatter_on kind m (lambda_on m p.lambda) b ≡ scattered wi reflection → Span reach wi
+  span_on : (kind : Kind) → m.kind ≡ kind → (wi : Vec3) (reflection : Bool) → scatter_on kind m (lambda_on m p.lambda) b ≡ scattered wi reflection → Span reach wi
   unfolding scatter_on share fresnel_at leading_index
-  span-on Metal e wi reflection t = subst (λ (s : Scattered). Outcome s) t metal-scattered
-  span-on Glass e wi reflection t =
+  span_on Metal e wi reflection t = subst (λ (s : Scattered). Outcome s) t metal-scattered
+  span_on Glass e wi reflection t =
       let lambda = lambda_on m p.lambda in
-      glass-direction (leading_index m lambda) (k_at m.eta m.k (leading lambda)) b.u (local_wo b) (facet m lambda b) wi reflection index (no-k e) below_one local-wo facet-unitary t
+      glass-direction (leading_index m lambda) (k_at m.eta m.k (leading lambda)) b.u (local_wo b) (facet m lambda b) wi reflection index (no_k e) below_one local_wo_lem facet_unitary t
 
-  pub direction-span : (wi : Vec3) (reflection : Bool) → scatter m (lambda_on m p.lambda) b ≡ scattered wi reflection → Span reach wi
+  pub direction_span : (wi : Vec3) (reflection : Bool) → scatter m (lambda_on m p.lambda) b ≡ scattered wi reflection → Span reach wi
   unfolding scatter
-  direction-span wi reflection t = span-on m.kind refl wi reflection t
+  direction_span wi reflection t = span_on m.kind refl wi reflection t
 
   -- ---- the shadowing q
   q-fits : (wi : Vec3) → T (fits binary64 (g_over_g1 m.roughness (local_wo b) wi (facet m (lambda_on m p.lambda) b)))
@@ -175,7 +175,7 @@ module _ (p : Path) (m : Microsurface) (b : Bounce) (h : Given p m b) where
       q = g_over_g1 m.roughness (local_wo b) wi (facet m (lambda_on m p.lambda) b)
 
       s : T (finite q) × T (le f0 q) × T (le q f1)
-      s = weight-share m.roughness (local_wo b) wi (facet m (lambda_on m p.lambda) b) rough (widen3 8 reach (local_wo b) (lit≤ tt) (local-span (local_wo b) local-wo)) (direction-span wi reflection t)
+      s = weight-share m.roughness (local_wo b) wi (facet m (lambda_on m p.lambda) b) rough (widen3 8 reach (local_wo b) (lit≤ tt) (local_span (local_wo b) local_wo_lem)) (direction_span wi reflection t)
 
       go : (one : Bool) → Weight (cond one f1 q)
       go true = whole

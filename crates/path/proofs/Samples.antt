@@ -245,17 +245,17 @@ unfolding to_world basis slope skew signum V3.add float_mul add sub mul div neg
 world--Z = refl
 
 module _ (a : Vec2) (delta : is_delta a ≡ true) where
-  smooth-3 : is_smooth a f3 ≡ true
+  smooth_3 : is_smooth a f3 ≡ true
   unfolding is_smooth eq
-  smooth-3 = delta
+  smooth_3 = delta
 
   reflected-density : dielectric_pdf a f3 f0 true Z Z ≡ quarter
   unfolding dielectric_pdf dielectric_pdf_from eta_ratio dielectric_half on_zSide is_discarded reflected_pdf at_z rest f_at normalize length length_squared dot div_float negate V3.add cos_theta epsilon decimal max is_nan square_root add sub mul div neg lt eq
-  reflected-density = rw (fresnel_3, smooth-3)
+  reflected-density = rw (fresnel_3, smooth_3)
 
   passed-density : dielectric_pdf a f3 f0 false Z -Z ≡ three_quarters
   unfolding dielectric_pdf dielectric_pdf_from eta_ratio dielectric_half on_zSide is_discarded passed_pdf at_z rest f_at normalize length length_squared dot div_float negate V3.add cos_theta epsilon decimal max is_nan square_root add sub mul div neg lt eq
-  passed-density = rw (fresnel_3, smooth-3)
+  passed-density = rw (fresnel_3, smooth_3)
 
 module _ (a : Vec2) (eta k : List Float) (outside : Outside) (delta : is_delta a ≡ true) (same : constant_eta eta outside ≡ true)
     (eta-3 : Reads (index_on Glass eta outside) f3) (k-0 : Reads (k_at eta k) f0) where
@@ -269,7 +269,7 @@ module _ (a : Vec2) (eta k : List Float) (outside : Outside) (delta : is_delta a
 
   glass-facet : (u : Float) → facet (glass a eta k outside) grid (along u) ≡ Z
   unfolding facet facet_of dielectric_normal
-  glass-facet u = rw (glass-eta, smooth-3 a delta)
+  glass-facet u = rw (glass-eta, smooth_3 a delta)
 
   glass-share : (u : Float) → share (glass a eta k outside) grid (along u) ≡ quarter
   unfolding share fresnel_at leading index_at f_at dot add mul
@@ -287,7 +287,7 @@ module _ (a : Vec2) (eta k : List Float) (outside : Outside) (delta : is_delta a
 
   glass-shadowing : (u : Float) (wi : Vec3) → shadowing_on (glass a eta k outside) grid (along u) wi ≡ f1
   unfolding shadowing_on shadowing one_direction
-  glass-shadowing u wi = rw (glass-eta, smooth-3 a delta)
+  glass-shadowing u wi = rw (glass-eta, smooth_3 a delta)
 
   glass-weight :
       (u l : Float) (wi : Vec3) (r : Bool) → eq l f0 ≡ false →
@@ -372,16 +372,16 @@ reflects-u0 =
     (glass_reflects smooth (constant f3) (constant f0) ones smooth_delta glass-constant reads_index (reads_k f3 f0))
     world_Z (reflected-density smooth smooth_delta) refl
 
-passes-quarter : bounce (path grid (all f1)) delta_glass (along quarter) ≡ passed (vec3 f0 f0 f_1) (D.Finite three_quarters) (S.Of quarter three_quarters) (path grid (all f1))
+passes_quarter : bounce (path grid (all f1)) delta_glass (along quarter) ≡ passed (vec3 f0 f0 f_1) (D.Finite three_quarters) (S.Of quarter three_quarters) (path grid (all f1))
 unfolding surface branch_of is_finite is_random lt le
-passes-quarter =
+passes_quarter =
     glass-bounce smooth (constant f3) (constant f0) ones smooth_delta glass-constant reads_index (reads_k f3 f0)
     quarter three_quarters -Z (vec3 f0 f0 f_1) false (glass_accepted quarter refl)
     (glass_passes smooth (constant f3) (constant f0) ones smooth_delta glass-constant reads_index (reads_k f3 f0))
     world--Z (passed-density smooth smooth_delta) refl
 
 bounces : Samples
-bounces = record { metal_once = once; metal_again = again; glass_reflects = reflects-u0; glass_passes = passes-quarter }
+bounces = record { metal_once = once; metal_again = again; glass_reflects = reflects-u0; glass_passes = passes_quarter }
 
 -- every starred sample of document 01
 pub all_samples : AllSamples

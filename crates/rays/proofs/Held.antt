@@ -11,7 +11,7 @@ use lib.Seq.{sets, length-sets}
 use Rattle.floats.proofs.Rounding.{below_or_from}
 use Rattle.path.specs.declared.records.Path.{Path}
 use Rattle.rays.specs.Store.{at, color_at, path_count, path_size, path_place, path_in, path_numbers, keep_path}
-use Rattle.rays.proofs.Lists.{sets-before, sets-after, sets-in}
+use Rattle.rays.proofs.Lists.{sets_before, sets_after, sets_in}
 
 -- every path's place lies in the store
 room : (paths : List Float) (i : ℕ) → length paths ≡ path_count * path_size → path_place i + 8 ≤ length paths
@@ -24,11 +24,11 @@ kept : (paths : List Float) (i : ℕ) (p : Path) → length paths ≡ path_count
 unfolding keep_path path_numbers
 kept paths i p whole k m e h =
     ap (λ (n : ℕ). at (sets paths (path_place i) (path_numbers p)) n) e
-    ∙ sets-in (path_numbers p) paths (path_place i) m nan h (room paths i whole)
+    ∙ sets_in (path_numbers p) paths (path_place i) m nan h (room paths i whole)
 
-pub path-kept : (paths : List Float) (i : ℕ) (p : Path) → length paths ≡ path_count * path_size → path_in (keep_path paths i p) i ≡ p
+pub path_kept : (paths : List Float) (i : ℕ) (p : Path) → length paths ≡ path_count * path_size → path_in (keep_path paths i p) i ≡ p
 unfolding path_in color_at path_numbers
-path-kept paths i p whole =
+path_kept paths i p whole =
     let in_place = kept paths i p whole in
     let a = path_place i in
     rw (
@@ -47,9 +47,9 @@ other : (paths : List Float) (i j : ℕ) (p : Path) → i % path_count ≢ j % p
     → at (keep_path paths i p) k ≡ at paths k
 unfolding keep_path path_numbers path_place
 other paths i j p apart k m e h = elim (below_or_from (j % path_count) (i % path_count)) [
-  | inl before ↦ sets-before (path_numbers p) paths (path_place i) k nan (omega arith)
+  | inl before ↦ sets_before (path_numbers p) paths (path_place i) k nan (omega arith)
   | inr from ↦ elim (below_or_from (i % path_count) (j % path_count)) [
-    | inl behind ↦ sets-after (path_numbers p) paths (path_place i) k nan (omega arith)
+    | inl behind ↦ sets_after (path_numbers p) paths (path_place i) k nan (omega arith)
     | inr back ↦ absurd (apart (le_antisymm from back))
   ]
 ]

@@ -104,12 +104,12 @@ unfolding density_record
 density_record_lem (D.Finite x) h = h
 density_record_lem D.NotFinite h = no_density_lem
 
-shares-given : (kind : Kind) (s : Shares) → SharesHold kind s → (shares_record s).given ≡ kind_code kind
+shares_given : (kind : Kind) (s : Shares) → SharesHold kind s → (shares_record s).given ≡ kind_code kind
 unfolding shares_record kind_code
-shares-given Metal S.None h = refl
-shares-given Metal (S.Of F rest) h = absurd h
-shares-given Glass S.None h = absurd h
-shares-given Glass (S.Of F rest) h = refl
+shares_given Metal S.None h = refl
+shares_given Metal (S.Of F rest) h = absurd h
+shares_given Glass S.None h = absurd h
+shares_given Glass (S.Of F rest) h = refl
 
 shares_record_lem : (kind : Kind) (s : Shares) → SharesHold kind s → (shares_record s).given ≡ 1 → SharesHold Glass (S.Of (shares_record s).reflected (shares_record s).passed)
 unfolding shares_record
@@ -121,28 +121,28 @@ shares_record_lem Glass (S.Of F rest) h e = h
 handed : (kind : Kind) (a : Bounced) → AnswerHolds kind (outcome a) → Handed kind (bounce_result (outcome a))
 unfolding outcome bounce_result
 handed kind (B.Refused why p) h = record { given = λ e. let z = number_positive why in absurd (omega arith); shares = λ e. absurd (omega arith); density = no_density_lem }
-handed kind (B.Lost shares p) h = record { given = λ _. shares-given kind shares h; shares = shares_record_lem kind shares h; density = no_density_lem }
-handed kind (B.Reflected wi density shares p) h = record { given = λ _. shares-given kind shares h.0; shares = shares_record_lem kind shares h.0; density = density_record_lem density h.1 }
-handed kind (B.Passed wi density shares p) h = record { given = λ _. shares-given kind shares h.0; shares = shares_record_lem kind shares h.0; density = density_record_lem density h.1 }
+handed kind (B.Lost shares p) h = record { given = λ _. shares_given kind shares h; shares = shares_record_lem kind shares h; density = no_density_lem }
+handed kind (B.Reflected wi density shares p) h = record { given = λ _. shares_given kind shares h.0; shares = shares_record_lem kind shares h.0; density = density_record_lem density h.1 }
+handed kind (B.Passed wi density shares p) h = record { given = λ _. shares_given kind shares h.0; shares = shares_record_lem kind shares h.0; density = density_record_lem density h.1 }
 
 -- ---- the number of the kind, which is 0 or 1 unless the bounce is refused
-kind-kept : (n : ℕ) → n ≤ 1 → kind_code (kind_of n) ≡ n
+kind_kept : (n : ℕ) → n ≤ 1 → kind_code (kind_of n) ≡ n
 unfolding kind_code kind_of
-kind-kept zero h = refl
-kind-kept (suc zero) h = refl
-kind-kept (suc (suc n)) h = absurd (omega arith)
+kind_kept zero h = refl
+kind_kept (suc zero) h = refl
+kind_kept (suc (suc n)) h = absurd (omega arith)
 
-unknown-refused : (p : Path) (s : SurfaceRecord) (eta k outer : List Float) (b : Bounce) → 1 < s.kind → (bounce_result (bounce p (surface_with s eta k outer) b)).number ≡ 1
+unknown_refused : (p : Path) (s : SurfaceRecord) (eta k outer : List Float) (b : Bounce) → 1 < s.kind → (bounce_result (bounce p (surface_with s eta k outer) b)).number ≡ 1
 unfolding bounce check_bounce ◌then◌ answered bounce_result
-unknown-refused p s eta k outer b h = rw (unknown-checked s eta k outer h)
+unknown_refused p s eta k outer b h = rw (unknown-checked s eta k outer h)
 
 kind-known : (p : Path) (s : SurfaceRecord) (eta k outer : List Float) (b : Bounce) → (bounce_result (bounce p (surface_with s eta k outer) b)).number ≡ 0 → kind_code (surface_of s).kind ≡ s.kind
 unfolding surface_of
 kind-known p s eta k outer b e = go (leb s.kind 1) refl
   where
     go : (known : Bool) → leb s.kind 1 ≡ known → kind_code (kind_of s.kind) ≡ s.kind
-    go true t = kind-kept s.kind (leb-true _ _ t)
-    go false t = let z = unknown-refused p s eta k outer b (leb-false _ _ t) in absurd (omega arith)
+    go true t = kind_kept s.kind (leb-true _ _ t)
+    go false t = let z = unknown_refused p s eta k outer b (leb-false _ _ t) in absurd (omega arith)
 
 -- ---- the run of a list of calls
 answer_of : (xs : List Float) (c : Call) → (a : Bounced) × (outcome a ≡ bounce (path_in xs) (step_of c).surface c.bounce)

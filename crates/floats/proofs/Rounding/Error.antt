@@ -1,7 +1,7 @@
 -- The rounding error of each operation on finite values of either sign. A value is P x - N x units,
 -- two naturals, so every bound is a pair of inequalities over ℕ that `omega` reads.
--- Proved: |fl(x + y) - (x + y)| <= 2 ^ -53 |x + y| (`add-err`), the same for a product and a quotient with half a unit more
--- (`mul-err`, `div-err`); an error as a number of its own (`unscale`). From the error of `rnd` in Rounding, sign by sign.
+-- Proved: |fl(x + y) - (x + y)| <= 2 ^ -53 |x + y| (`add_err`), the same for a product and a quotient with half a unit more
+-- (`mul_err`, `div_err`); an error as a number of its own (`unscale`). From the error of `rnd` in Rounding, sign by sign.
 use mathlib.Core.Path.{◌≡◌, refl, sym, ap, ◌∙◌, subst}
 use Prim.Native.Nat.{ℕ, ◌+◌, ◌-◌, ◌*◌, ◌/◌, ◌^◌, ◌≤◌, ◌<◌}
 use native.Mathlib.Nat.{mul-pos, le_of_mul-le-mul_right, lt_of_mul-lt-mul_right, mul-div-le}
@@ -13,7 +13,7 @@ use lib.Ieee.{Float, nan, inf, fin, Format, binary64, unlike, neg, add, mul, div
 use lib.Ieee.Fits.{add-fits, div-fits, mul-fits, neg-fits}
 use lib.Ieee.Scale.{finite}
 use Rattle.floats.proofs.Rounding.{rnd, Near, rnd_all, rnd_whole}
-use Rattle.floats.proofs.Rounding.Units.{U, O, U_pos, Is, sign, mag, is_of, is_finite_lem, is_same, pp, nn, le_of_below, below_of-le, round-units, round_whole, neg_is, mul_is, div_is, add_is, sum_is, swap-pp, swap-nn}
+use Rattle.floats.proofs.Rounding.Units.{U, O, U_pos, Is, sign, mag, is_of, is_finite_lem, is_same, pp, nn, le_of_below, below_of-le, round_units, round_whole, neg_is, mul_is, div_is, add_is, sum_is, swap_pp, swap_nn}
 use Rattle.floats.specs.Float.{f_1}
 
 abbrev B : Format
@@ -23,10 +23,10 @@ B = binary64
 abbrev pub Fin : Float → Type 0
 Fin x = T (finite x) × T (fits B x)
 
-pub unit-fin : (s : Bool) → Fin (fin s 1 (pos 0))
+pub unit_fin : (s : Bool) → Fin (fin s 1 (pos 0))
 unfolding fits
-unit-fin false = (tt, tt)
-unit-fin true = (tt, tt)
+unit_fin false = (tt, tt)
+unit_fin true = (tt, tt)
 
 -- x is P x - N x units, and one of the two is 0
 unfoldable pub P : Float → ℕ
@@ -89,11 +89,11 @@ size-bound false δ p n e h k l = omega arith
 size-bound true δ p n e h k l = omega arith
 
 -- the sum: e bounds the exact sum in size
-pub add-err : (x y : Float) (e : ℕ) → Fin x → Fin y → P x + P y ≤ N x + N y + e → N x + N y ≤ P x + P y + e → e + e < O
+pub add_err : (x y : Float) (e : ℕ) → Fin x → Fin y → P x + P y ≤ N x + N y + e → N x + N y ≤ P x + P y + e → e + e < O
     → Fin (add B x y)
     × Near (M * (P (add B x y) + (N x + N y))) (M * (N (add B x y) + (P x + P y))) e
     × (M * (P (add B x y) + N (add B x y)) ≤ M * e + e)
-add-err x y e fx fy h k o =
+add_err x y e fx fy h k o =
     let s = sign x in
     let t = sign y in
     let a = mag x in
@@ -123,11 +123,11 @@ prod_pos false true a b = omega arith
 prod_pos true false a b = omega arith
 prod_pos true true a b = omega arith
 
-prod-neg : (s t : Bool) (a b : ℕ) → pp s a * nn t b + nn s a * pp t b ≡ nn (unlike s t) (a * b)
-prod-neg false false a b = omega arith
-prod-neg false true a b = omega arith
-prod-neg true false a b = omega arith
-prod-neg true true a b = omega arith
+prod_neg : (s t : Bool) (a b : ℕ) → pp s a * nn t b + nn s a * pp t b ≡ nn (unlike s t) (a * b)
+prod_neg false false a b = omega arith
+prod_neg false true a b = omega arith
+prod_neg true false a b = omega arith
+prod_neg true true a b = omega arith
 
 near_cancel : (u x y d : ℕ) → 0 < u → Near (x * u) (y * u) (d * u) → Near x y d
 near_cancel u x y d h n =
@@ -138,11 +138,11 @@ mul-rnd n =
     let h = rnd_all 53 (n * U) (U * U) (lit< tt) (mul-pos U_pos U_pos) in
     near_cancel U (M * (rnd 53 (n * U) (U * U) * U)) (M * n) (n + M/2 * U) U_pos (omega arith)
 
-pub mul-err : (x y : Float) (e : ℕ) → Fin x → Fin y → (P x + N x) * (P y + N y) ≤ e → e + e + U < O * U
+pub mul_err : (x y : Float) (e : ℕ) → Fin x → Fin y → (P x + N x) * (P y + N y) ≤ e → e + e + U < O * U
     → Fin (mul B x y)
     × Near (M * (U * P (mul B x y) + (P x * N y + N x * P y))) (M * (U * N (mul B x y) + (P x * P y + N x * N y))) (e + M/2 * U)
     × (M * (U * P (mul B x y) + U * N (mul B x y)) ≤ M * e + e + M/2 * U)
-mul-err x y e fx fy h o =
+mul_err x y e fx fy h o =
     let s = sign x in
     let t = sign y in
     let a = mag x in
@@ -155,12 +155,12 @@ mul-err x y e fx fy h o =
     let r = rnd 53 (n * U) (U * U) in
     let w = mul-rnd n in
     let is = mul_is x y s t a b (is_of x fx.0 fx.1).0 (is_of y fy.0 fy.1).0 in
-    let below = round-units σ n (U * U) (lt_of_mul-lt-mul_right U (small r n U (O * U) w ab o)) in
+    let below = round_units σ n (U * U) (lt_of_mul-lt-mul_right U (small r n U (O * U) w ab o)) in
     let i : Is (mul B x y) σ r = subst (λ (z : Float). Is z σ r) (sym is) below in
     let f : Fin (mul B x y) = (is_finite_lem (mul B x y) σ r i, mul-fits B x y) in
     let pr = parts (mul B x y) σ r f i in (
       f,
-      rw (pr.0, pr.1, px.0, px.1, py.0, py.1, prod_pos s t a b, prod-neg s t a b) (finish σ r n w ab),
+      rw (pr.0, pr.1, px.0, px.1, py.0, py.1, prod_pos s t a b, prod_neg s t a b) (finish σ r n w ab),
       rw (pr.0, pr.1) (whole σ r n U w ab),
     )
   where
@@ -192,9 +192,9 @@ pub le_parts : (x y : Float) → Fin x → Fin y → T (le x y) → P x + N y �
 unfolding P N
 le_parts x y f g h = below_of-le x y (sign x) (sign y) (mag x) (mag y) (is_of x f.0 f.1).0 (is_of y g.0 g.1).0 h
 
-pub parts-le : (x y : Float) → Fin x → Fin y → P x + N y ≤ P y + N x → T (le x y)
+pub parts_le : (x y : Float) → Fin x → Fin y → P x + N y ≤ P y + N x → T (le x y)
 unfolding P N
-parts-le x y f g h = le_of_below x y (sign x) (sign y) (mag x) (mag y) (is_of x f.0 f.1).0 (is_of y g.0 g.1).0 h
+parts_le x y f g h = le_of_below x y (sign x) (sign y) (mag x) (mag y) (is_of x f.0 f.1).0 (is_of y g.0 g.1).0 h
 
 neg-finite : (x : Float) → T (finite x) → T (finite (neg x))
 unfolding neg
@@ -202,13 +202,13 @@ neg-finite nan h = h
 neg-finite (inf s) h = h
 neg-finite (fin s m e) h = tt
 
-pub neg-parts : (x : Float) → Fin x → Fin (neg x) × (P (neg x) ≡ N x) × (N (neg x) ≡ P x)
+pub neg_parts : (x : Float) → Fin x → Fin (neg x) × (P (neg x) ≡ N x) × (N (neg x) ≡ P x)
 unfolding P N
-neg-parts x f =
+neg_parts x f =
     let i = (is_of x f.0 f.1).0 in
     let g : Fin (neg x) = (neg-finite x f.0, neg-fits B x f.1) in
     let p = parts (neg x) (not (sign x)) (mag x) g (neg_is x (sign x) (mag x) i) in
-    (g, p.0 ∙ swap-pp (sign x) (mag x), p.1 ∙ swap-nn (sign x) (mag x))
+    (g, p.0 ∙ swap_pp (sign x) (mag x), p.1 ∙ swap_nn (sign x) (mag x))
 
 -- ---- the quotient: r * y is near x * U
 quot_signs : (s t : Bool) (r a b u m d : ℕ) → Near (m * (r * b)) (m * (a * u)) d
@@ -219,11 +219,11 @@ quot_signs false true r a b u m d h = (omega arith, omega arith)
 quot_signs true false r a b u m d h = (omega arith, omega arith)
 quot_signs true true r a b u m d h = (omega arith, omega arith)
 
-pub div-err : (x y : Float) → Fin x → Fin y → 0 < P y + N y → rnd 53 ((P x + N x) * U) (P y + N y) < O
+pub div_err : (x y : Float) → Fin x → Fin y → 0 < P y + N y → rnd 53 ((P x + N x) * U) (P y + N y) < O
     → Fin (div B x y)
     × Near (M * (P (div B x y) * P y + N (div B x y) * N y + U * N x)) (M * (P (div B x y) * N y + N (div B x y) * P y + U * P x))
     ((P x + N x) * U + M/2 * (P y + N y))
-div-err x y fx fy y0 o =
+div_err x y fx fy y0 o =
     let s = sign x in
     let t = sign y in
     let a = mag x in
@@ -234,7 +234,7 @@ div-err x y fx fy y0 o =
     let r = rnd 53 (a * U) b in
     let is = div_is x y s t a b (is_of x fx.0 fx.1).0 (is_of y fy.0 fy.1).0 b0 in
     let i : Is (div B x y) (unlike s t) r =
-    subst (λ (z : Float). Is z (unlike s t) r) (sym is) (round-units (unlike s t) a b (rw (sum_mag x, sum_mag y) at o)) in
+    subst (λ (z : Float). Is z (unlike s t) r) (sym is) (round_units (unlike s t) a b (rw (sum_mag x, sum_mag y) at o)) in
     let f : Fin (div B x y) = (is_finite_lem (div B x y) (unlike s t) r i, div-fits B x y) in
     let pr = parts (div B x y) (unlike s t) r f i in (
       f,
@@ -249,4 +249,4 @@ div_sized x y f g p o =
     let s = unlike (sign x) (sign y) in
     let r = rnd 53 (mag x * U) (mag y) in
     let is = div_is x y (sign x) (sign y) (mag x) (mag y) (is_of x f.0 f.1).0 (is_of y g.0 g.1).0 p in
-    sized (div B x y) s r (div-fits B x y) (subst (λ (z : Float). Is z s r) (sym is) (round-units s (mag x) (mag y) o))
+    sized (div B x y) s r (div-fits B x y) (subst (λ (z : Float). Is z s r) (sym is) (round_units s (mag x) (mag y) o))

@@ -13,8 +13,8 @@ use lib.Ieee.{Float, nan, Format, binary64, neg, add, sub, mul}
 use lib.Ieee.Fits.{and_l, and_r}
 use Rattle.floats.proofs.Rounding.{Near}
 use Rattle.floats.proofs.Rounding.Units.{U, O, mag, sub_opens}
-use Rattle.floats.proofs.Rounding.Error.{Fin, P, N, M, M/2, add-err, mul-err, neg-parts, sum_mag, one_side}
-use Rattle.floats.proofs.Rounding.SignedPoly.{R, ◌⊞◌, ◌⊠◌, inv, nat, Ex, va, ◌∔◌, ◌⋆◌, minus, at, eval, vanishes, Zero, ab, ab-inv, ab-mul, ab-poly, bd_near, Q, Bd, bd_add, bd_mul, num, sc, bd_sc, nat-mul, bd_deg, lift, lift-ok, ⊠-comm, ⊠-assoc, ⊠-add, ⊠-one, bd_unsc}
+use Rattle.floats.proofs.Rounding.Error.{Fin, P, N, M, M/2, add_err, mul_err, neg_parts, sum_mag, one_side}
+use Rattle.floats.proofs.Rounding.SignedPoly.{R, ◌⊞◌, ◌⊠◌, inv, nat, Ex, va, ◌∔◌, ◌⋆◌, minus, at, eval, vanishes, Zero, ab, ab-inv, ab-mul, ab_poly, bd_near, Q, Bd, bd_add, bd_mul, num, sc, bd_sc, nat-mul, bd_deg, lift, lift_ok, ⊠-comm, ⊠-assoc, ⊠-add, ⊠-one, bd_unsc}
 use lib.ListN.{get_or}
 
 abbrev B : Format
@@ -76,7 +76,7 @@ add_bd x y c d fx fy h k l =
     let he : Q * e ≤ s * U = sums (ab (rv x)) (ab (rv y)) (subst (λ (w : ℕ). Q * ab (rv x) ≤ c * w) pow1 h) (subst (λ (w : ℕ). Q * ab (rv y) ≤ d * w) pow1 k) in
     let limit : 2 * s * U < O * Q = lt_of_le_of_lt (mul-le-mul_right U (mul-le-mul_left 2 l)) (lt_of_lt_of_le room₁ (le_of_eq (mul_comm Q O))) in
     let small : e + e < O = lt_of_mul-lt-mul_right Q (lt_of_le_of_lt (omega arith) limit) in
-    let w = add-err x y e fx fy (side (P x) (N x) (P y) (N y)) (omega arith) small in
+    let w = add_err x y e fx fy (side (P x) (N x) (P y) (N y)) (omega arith) small in
     let D = rv z ⊞ inv (rv x ⊞ rv y) in
     let g : M * ab D ≤ e = omega arith in
     let n : Bd 1 D (ulp s) = subst (λ (u : ℕ). Q * ab D ≤ ulp s * u) (sym pow1) (shrink (ab D) e s U g (le_trans he (wide s U))) in
@@ -104,7 +104,7 @@ mul_bd x y c d fx fy h k l =
     let pe : (P x + N x) * (P y + N y) ≤ e = le_of_eq (ap (λ (w : ℕ). w * (P y + N y)) (size-ab x) ∙ ap (λ (w : ℕ). ab (rv x) * w) (size-ab y)) in
     let limit = lt_of_le_of_lt (more U (U * U) Q (mul-le-mul_right (U * U) (mul-le-mul_left 2 l))) (lt_of_lt_of_le room₂ (le_of_eq (mul_comm Q (O * U)))) in
     let small : e + e + U < O * U = lt_of_mul-lt-mul_right Q (lt_of_le_of_lt (dbl e m (U * U) Q U he) limit) in
-    let w = mul-err x y e fx fy pe small in
+    let w = mul_err x y e fx fy pe small in
     let D = nat U ⊠ rv z ⊞ inv (rv x ⊠ rv y) in
     let g : M * ab D ≤ e + M/2 * U = err U (P z) (N z) (P x * P y + N x * N y) (P x * N y + N x * P y) (e + M/2 * U) w.1 in
     let he' : Q * (e + M/2 * U) ≤ (m + 1) * (U * U) = grow e m (M/2 * U) (U * U) he room₃ in
@@ -129,7 +129,7 @@ mul_bd x y c d fx fy h k l =
 
 neg-rv : (x : Float) → Fin x → rv (neg x) ≡ inv (rv x)
 unfolding inv
-neg-rv x f = let n = neg-parts x f in λ i. (n.1 i, n.2 i)
+neg-rv x f = let n = neg_parts x f in λ i. (n.1 i, n.2 i)
 
 -- ---- trees
 pub data Fl : Type 0 where
@@ -278,7 +278,7 @@ add-near a b X Y Z A C δ e f h g l =
     same w α wa γ wb X Y Z A C p q =
         let D = w ⊠ (Z ⊞ inv (X ⊞ Y)) in
         (λ i. ab (D ⊞ spread w α wa X A p i ⊞ spread w γ wb Y C q i))
-        ∙ ab-poly (w ∷ α ∷ γ ∷ X ∷ Y ∷ Z ∷ A ∷ C ∷ [])
+        ∙ ab_poly (w ∷ α ∷ γ ∷ X ∷ Y ∷ Z ∷ A ∷ C ∷ [])
         (va 0 ⋆ (va 5 ∔ minus (va 3 ∔ va 4)) ∔ (va 0 ⋆ va 3 ∔ minus (va 6) ⋆ va 1) ∔ (va 0 ⋆ va 4 ∔ minus (va 7) ⋆ va 2))
         (va 0 ⋆ va 5 ∔ minus (va 1 ⋆ va 6 ∔ va 2 ⋆ va 7)) tt
 
@@ -291,7 +291,7 @@ mul-near a b X Y Z A C δ e f m n h g l hx hy =
     let D = nat U ⊠ Z ⊞ inv (X ⊠ Y) in
     let E = sc a X ⊞ inv A in
     let F = sc b Y ⊞ inv C in
-    let turned : ab E ≡ ab (A ⊞ inv (sc a X)) = ab-poly (sc a X ∷ A ∷ []) (va 0 ∔ minus (va 1)) (minus (va 1 ∔ minus (va 0))) tt ∙ ab-inv (A ⊞ inv (sc a X)) in
+    let turned : ab E ≡ ab (A ⊞ inv (sc a X)) = ab_poly (sc a X ∷ A ∷ []) (va 0 ∔ minus (va 1)) (minus (va 1 ∔ minus (va 0))) tt ∙ ab-inv (A ⊞ inv (sc a X)) in
     let g' : Bd (suc a) (A ⊞ inv (sc a X)) e = subst (λ (z : ℕ). Q * z ≤ e * U ^ suc a) turned g in
     let bX : Bd (suc a) (sc a X) m = bd_deg (a + 1) (suc a) (sc a X) m (omega arith) (bd_sc a 1 X m hx) in
     let bA : Bd (suc a) A (e + m) = bd_near (suc a) A (sc a X) e m g' bX in
@@ -312,7 +312,7 @@ mul-near a b X Y Z A C δ e f m n h g l hx hy =
         → ab (v ⊠ (u ⊠ Z ⊞ inv (X ⊠ Y)) ⊞ (α ⊠ X ⊞ inv A) ⊠ (β ⊠ Y) ⊞ A ⊠ (β ⊠ Y ⊞ inv C)) ≡ ab (w ⊠ Z ⊞ inv (A ⊠ C))
     same v w α β u X Y Z A C p q =
         ap (λ (z : R). ab (z ⊠ (u ⊠ Z ⊞ inv (X ⊠ Y)) ⊞ (α ⊠ X ⊞ inv A) ⊠ (β ⊠ Y) ⊞ A ⊠ (β ⊠ Y ⊞ inv C))) p
-        ∙ ab-poly (α ∷ β ∷ u ∷ X ∷ Y ∷ Z ∷ A ∷ C ∷ [])
+        ∙ ab_poly (α ∷ β ∷ u ∷ X ∷ Y ∷ Z ∷ A ∷ C ∷ [])
         (va 0 ⋆ va 1 ⋆ (va 2 ⋆ va 5 ∔ minus (va 3 ⋆ va 4)) ∔ (va 0 ⋆ va 3 ∔ minus (va 6)) ⋆ (va 1 ⋆ va 4) ∔ va 6 ⋆ (va 1 ⋆ va 4 ∔ minus (va 7)))
         (va 0 ⋆ va 1 ⋆ va 2 ⋆ va 5 ∔ minus (va 6 ⋆ va 7)) tt
         ∙ ap (λ (z : R). ab (z ⊠ Z ⊞ inv (A ⊠ C))) (sym q)
@@ -320,7 +320,7 @@ mul-near a b X Y Z A C δ e f m n h g l hx hy =
 inv-near : (j : ℕ) (p : ℕ) (X A : R) (e : ℕ) → Bd j (sc p X ⊞ inv A) e → Bd j (sc p (inv X) ⊞ inv (inv A)) e
 unfolding vanishes sc
 inv-near j p X A e h =
-    let turned = ab-poly (nat (U ^ p) ∷ X ∷ A ∷ []) (minus (va 0 ⋆ va 1 ∔ minus (va 2))) (va 0 ⋆ minus (va 1) ∔ minus (minus (va 2))) tt in
+    let turned = ab_poly (nat (U ^ p) ∷ X ∷ A ∷ []) (minus (va 0 ⋆ va 1 ∔ minus (va 2))) (va 0 ⋆ minus (va 1) ∔ minus (minus (va 2))) tt in
     subst (λ (z : ℕ). Q * z ≤ e * U ^ j) (sym (ab-inv (sc p X ⊞ inv A)) ∙ turned) h
 
 inv-sc : (p : ℕ) (A : R) → inv (sc p A) ≡ sc p (inv A)
@@ -340,25 +340,25 @@ sum_sound ρ β a b s t l =
     let p = max (pd a) (pd b) in
     record {
       fin = w.0;
-      near = rw (lift-ok (vals ρ) (p - pd a) (ex a), lift-ok (vals ρ) (p - pd b) (ex b))
+      near = rw (lift_ok (vals ρ) (p - pd a) (ex a), lift_ok (vals ρ) (p - pd b) (ex b))
           (add-near (pd a) (pd b) (rv x) (rv y) (rv (add B x y)) (eval γ (ex a)) (eval γ (ex b)) (ulp (mg β a + mg β b)) (er β a) (er β b) w.1 s.near t.near);
       most = w.2;
     }
 
-neg-sound : (ρ : List Float) (β : List ℕ) (a : Fl) → Sound ρ β a → Sound ρ β (fneg a)
+neg_sound : (ρ : List Float) (β : List ℕ) (a : Fl) → Sound ρ β a → Sound ρ β (fneg a)
 unfolding pd ex mg er
-neg-sound ρ β a s =
+neg_sound ρ β a s =
     let x = flo ρ a in
     let e = neg-rv x s.fin in
     record {
-      fin = (neg-parts x s.fin).0;
+      fin = (neg_parts x s.fin).0;
       near = rw e (inv-near (suc (pd a)) (pd a) (rv x) (eval (nat U ∷ vals ρ) (ex a)) (er β a) s.near);
       most = rw (e, ab-inv) s.most;
     }
 
-mul-sound : (ρ : List Float) (β : List ℕ) (a b : Fl) → Sound ρ β a → Sound ρ β b → mg β a * mg β b / Q + 1 ≤ Lim → Sound ρ β (a *ᶠ b)
+mul_sound : (ρ : List Float) (β : List ℕ) (a b : Fl) → Sound ρ β a → Sound ρ β b → mg β a * mg β b / Q + 1 ≤ Lim → Sound ρ β (a *ᶠ b)
 unfolding pd ex mg er
-mul-sound ρ β a b s t l =
+mul_sound ρ β a b s t l =
     let x = flo ρ a in
     let y = flo ρ b in
     let γ = nat U ∷ vals ρ in
@@ -370,15 +370,15 @@ mul-sound ρ β a b s t l =
     }
 
 -- a difference is a sum
-sub-sound : (ρ : List Float) (β : List ℕ) (a b : Fl) → Sound ρ β (a +ᶠ fneg b) → Sound ρ β (a -ᶠ b)
+sub_sound : (ρ : List Float) (β : List ℕ) (a b : Fl) → Sound ρ β (a +ᶠ fneg b) → Sound ρ β (a -ᶠ b)
 unfolding pd ex mg er
-sub-sound ρ β a b s =
+sub_sound ρ β a b s =
     let γ = nat U ∷ vals ρ in
     let p = max (pd a) (pd b) in
     let e = sub_opens (flo ρ a) (flo ρ b) in
     record {
       fin = rw e s.fin;
-      near = rw (e, lift-ok (vals ρ) (p - pd b) (ex b), inv-sc (p - pd b) (eval γ (ex b)), ← lift-ok (vals ρ) (p - pd b) (minus (ex b))) s.near;
+      near = rw (e, lift_ok (vals ρ) (p - pd b) (ex b), inv-sc (p - pd b) (eval γ (ex b)), ← lift_ok (vals ρ) (p - pd b) (minus (ex b))) s.near;
       most = rw e s.most;
     }
 
@@ -400,12 +400,12 @@ sound ρ β (a -ᶠ b) h c t =
     let l = leb→le (mg β a + mg β b) Lim (and_l q (tame β a && tame β b) t) in
     let sa = sound ρ β a h (and_l (closed β a) (closed β b) c) (and_l (tame β a) (tame β b) t') in
     let sb = sound ρ β b h (and_r (closed β a) (closed β b) c) (and_r (tame β a) (tame β b) t') in
-    sub-sound ρ β a b (sum_sound ρ β a (fneg b) sa (neg-sound ρ β b sb) l)
+    sub_sound ρ β a b (sum_sound ρ β a (fneg b) sa (neg_sound ρ β b sb) l)
 sound ρ β (a *ᶠ b) h c t =
     let q = leb (mg β a * mg β b / Q + 1) Lim in
     let t' = and_r q (tame β a && tame β b) t in
     let l = leb→le (mg β a * mg β b / Q + 1) Lim (and_l q (tame β a && tame β b) t) in
     let sa = sound ρ β a h (and_l (closed β a) (closed β b) c) (and_l (tame β a) (tame β b) t') in
     let sb = sound ρ β b h (and_r (closed β a) (closed β b) c) (and_r (tame β a) (tame β b) t') in
-    mul-sound ρ β a b sa sb l
-sound ρ β (fneg a) h c t = neg-sound ρ β a (sound ρ β a h c t)
+    mul_sound ρ β a b sa sb l
+sound ρ β (fneg a) h c t = neg_sound ρ β a (sound ρ β a h c t)

@@ -1,6 +1,6 @@
 -- The order of sums, products and quotients of values that are not negative, the infinity included.
 -- Proved: `<=` is transitive on the values of the format (`le_trans-fits`); + and * keep it
--- (`add-mono`, `mul_mono`), a quotient grows with x and shrinks with y (`div-sizes`);
+-- (`add-mono`, `mul_mono`), a quotient grows with x and shrinks with y (`div_sizes`);
 -- so 1 / (1 + s + t) <= 1 / (1 + s) <= 1 (`damping`), and the quotient of the two
 -- is from 0 to 1 (`ratio`). By units: rounding keeps the order.
 use mathlib.Core.Path.{◌≡◌, sym, subst}
@@ -15,8 +15,8 @@ use lib.Ieee.Fits.{div-fits}
 use lib.Ieee.Scale.{finite}
 use Rattle.floats.proofs.Rounding.{rnd, rnd_idem, rnd-mono}
 use Rattle.floats.proofs.Rounding.Units.{U, O, U_pos, U_O, mag, is_of, Below, le_of_below, below_of-le}
-use Rattle.floats.proofs.Rounding.NonNegative.{Fine, Ext, ext_of, ext_le, le_ext, unit_ext, mul_ext, div_ext, div_inf, add_ext, fine_of, inside, fine_under, U_held, rnd_O, unit-fine}
-use Rattle.floats.proofs.Rounding.Shares.{div-units, rnd_mono1, quotient, Share}
+use Rattle.floats.proofs.Rounding.NonNegative.{Fine, Ext, ext_of, ext_le, le_ext, unit_ext, mul_ext, div_ext, div_inf, add_ext, fine_of, inside, fine_under, U_held, rnd_O, unit_fine}
+use Rattle.floats.proofs.Rounding.Shares.{div_units, rnd_mono1, quotient, Share}
 use Rattle.floats.specs.Float.{f1, f0}
 
 abbrev B : Format
@@ -74,9 +74,9 @@ size_of x f h = let e = ext_of x f h in go e.0 e.1 e.2
     go a (inl p) r = (a, inl p, r, le_of_lt p.0)
     go a (inr p) r = (O, inr (le_refl O, p.1), rnd_O, le_refl O)
 
-pub sizes-le : (x y : Float) (a b : ℕ) → Ext x a → Ext y b → a ≤ O → T (le x y) → a ≤ b
-sizes-le x y a b p (inl q) o h = le_ext x y a b p (inl q) q.0 h
-sizes-le x y a b p (inr q) o h = le_trans o q.0
+pub sizes_le : (x y : Float) (a b : ℕ) → Ext x a → Ext y b → a ≤ O → T (le x y) → a ≤ b
+sizes_le x y a b p (inl q) o h = le_ext x y a b p (inl q) q.0 h
+sizes_le x y a b p (inr q) o h = le_trans o q.0
 
 pub add-mono : (x x' y y' : Float) → T (fits B x) → T (fits B x') → T (fits B y) → T (fits B y') → T (le f0 x) → T (le f0 y) → T (le x x')
     → T (le y y') → T (le (add B x y) (add B x' y'))
@@ -85,8 +85,8 @@ add-mono x x' y y' fx fx' fy fy' x0 y0 h k =
     let a' = size_of x' fx' (le_trans-fits f0 x x' nil-fits fx fx' x0 h) in
     let b = size_of y fy y0 in
     let b' = size_of y' fy' (le_trans-fits f0 y y' nil-fits fy fy' y0 k) in
-    let l = sizes-le x x' a.0 a'.0 a.1 a'.1 a.3 h in
-    let r = sizes-le y y' b.0 b'.0 b.1 b'.1 b.3 k in
+    let l = sizes_le x x' a.0 a'.0 a.1 a'.1 a.3 h in
+    let r = sizes_le y y' b.0 b'.0 b.1 b'.1 b.3 k in
     ext_le (add B x y) (add B x' y') (rnd 53 (a.0 + b.0) 1) (rnd 53 (a'.0 + b'.0) 1) (add_ext x y a.0 b.0 a.1 b.1)
     (add_ext x' y' a'.0 b'.0 a'.1 b'.1) (rnd_mono1 (a.0 + b.0) (a'.0 + b'.0) (add-le-add l r))
 
@@ -98,8 +98,8 @@ mul_mono x x' y y' fx fx' fy fy' x0 y0 hx hy h k =
     let a' = fine_of x' fx' (le_trans-fits f0 x x' nil-fits fx fx' x0 h) hx in
     let b = size_of y fy y0 in
     let b' = fine_of y' fy' (le_trans-fits f0 y y' nil-fits fy fy' y0 k) hy in
-    let l = sizes-le x x' a.0 a'.0 a.1 (inl (a'.2, a'.1)) a.3 h in
-    let r = sizes-le y y' b.0 b'.0 b.1 (inl (b'.2, b'.1)) b.3 k in
+    let l = sizes_le x x' a.0 a'.0 a.1 (inl (a'.2, a'.1)) a.3 h in
+    let r = sizes_le y y' b.0 b'.0 b.1 (inl (b'.2, b'.1)) b.3 k in
     let UU = mul-pos U_pos U_pos in
     ext_le (mul B x y) (mul B x' y') (rnd 53 (a.0 * b.0 * U) (U * U)) (rnd 53 (a'.0 * b'.0 * U) (U * U))
     (mul_ext x y a.0 b.0 (fine_under x a.0 a.1 (lt_of_le_of_lt l a'.2))
@@ -109,27 +109,27 @@ mul_mono x x' y y' fx fx' fy fy' x0 y0 hx hy h k =
     (mul-le-mul_right (U * U) (mul-le-mul_right U (mul-le-mul l r))))
 
 -- a quotient grows with x and shrinks with y, up to the infinity
-pub div-sizes : (x x' y y' : Float) (a a' b b' : ℕ) → Fine x a → Fine x' a' → Ext y b → Ext y' b' → 0 < b' → a ≤ a' → b' ≤ b
+pub div_sizes : (x x' y y' : Float) (a a' b b' : ℕ) → Fine x a → Fine x' a' → Ext y b → Ext y' b' → 0 < b' → a ≤ a' → b' ≤ b
     → T (le (div B x y) (div B x' y'))
-div-sizes x x' y y' a a' b b' p p' (inl q) (inl q') B' h k =
+div_sizes x x' y y' a a' b b' p p' (inl q) (inl q') B' h k =
     let B0 = lt_of_lt_of_le B' k in
     ext_le (div B x y) (div B x' y') (rnd 53 (a * U) b) (rnd 53 (a' * U) b') (div_ext x y a b p q.1 B0)
     (div_ext x' y' a' b' p' q'.1 B')
     (rnd-mono 53 (a * U) b (a' * U) b' (lit< tt) B0 B' (mul-le-mul (mul-le-mul_right U h) k))
-div-sizes x x' y y' a a' b b' p p' (inr q) (inl q') B' h k =
+div_sizes x x' y y' a a' b b' p p' (inr q) (inl q') B' h k =
     ext_le (div B x y) (div B x' y') 0 (rnd 53 (a' * U) b') (subst (λ (z : Float). Ext (div B x z) 0) (sym q.1) (div_inf x a p))
     (div_ext x' y' a' b' p' q'.1 B') zero-le
-div-sizes x x' y y' a a' b b' p p' (inl q) (inr q') B' h k = absurd (lt_irrefl O (lt_of_le_of_lt q'.0 (lt_of_le_of_lt k q.0)))
-div-sizes x x' y y' a a' b b' p p' (inr q) (inr q') B' h k =
+div_sizes x x' y y' a a' b b' p p' (inl q) (inr q') B' h k = absurd (lt_irrefl O (lt_of_le_of_lt q'.0 (lt_of_le_of_lt k q.0)))
+div_sizes x x' y y' a a' b b' p p' (inr q) (inr q') B' h k =
     ext_le (div B x y) (div B x' y') 0 0 (subst (λ (z : Float). Ext (div B x z) 0) (sym q.1) (div_inf x a p))
     (subst (λ (z : Float). Ext (div B x' z) 0) (sym q'.1) (div_inf x' a' p')) zero-le
 
 -- ---- 1 / (1 + s + t) ≤ 1 / (1 + s) ≤ 1
 -- 1 / y for a y from 1 up
 pub recip-le : (y : Float) (b : ℕ) → Ext y b → U ≤ b → Share (div B f1 y)
-recip-le y b (inl q) h = div-units f1 y U b unit-fine q.1 (lt_of_lt_of_le U_pos h) h
+recip-le y b (inl q) h = div_units f1 y U b unit_fine q.1 (lt_of_lt_of_le U_pos h) h
 recip-le y b (inr q) h =
-    inside (div B f1 y) f1 0 U (subst (λ (z : Float). Ext (div B f1 z) 0) (sym q.1) (div_inf f1 U unit-fine)) unit_ext U_O zero-le
+    inside (div B f1 y) f1 0 U (subst (λ (z : Float). Ext (div B f1 z) 0) (sym q.1) (div_inf f1 U unit_fine)) unit_ext U_O zero-le
 
 module _ (s t : Float) (fs : T (fits B s)) (ft : T (fits B t)) (s0 : T (le f0 s)) (t0 : T (le f0 t)) where
   abbrev g₁ : Float
@@ -153,7 +153,7 @@ module _ (s t : Float) (fs : T (fits B s)) (ft : T (fits B t)) (s0 : T (le f0 s)
       let r1 = recip-le (add B f1 s) A X UA in
       let r2 = recip-le (add B (add B f1 s) t) A2 Y (le_trans UA AA) in (
         (r2.0, r2.1),
-        div-sizes f1 f1 (add B (add B f1 s) t) (add B f1 s) U U A2 A unit-fine unit-fine Y X (lt_of_lt_of_le U_pos UA)
+        div_sizes f1 f1 (add B (add B f1 s) t) (add B f1 s) U U A2 A unit_fine unit_fine Y X (lt_of_lt_of_le U_pos UA)
             (le_refl U) AA,
         r1.2,
         r1.0,

@@ -17,8 +17,8 @@ use lib.Ieee.Exact.{HasValue}
 use lib.Ieee.Fits.{down_pos}
 use lib.Ieee.Scale.{finite}
 use lib.Ieee.Positive.{first_pos}
-use Rattle.floats.proofs.Rounding.{rnd, rnd-fix, rnd-mono, rnd_same, below_or_from}
-use Rattle.floats.proofs.Rounding.Units.{U, O, U_pos, U_O, Is, sign, mag, Held, is_of, is_same, is_finite_lem, pp, nn, Below, le_of_below, below_of-le, round-units, round_over, rnd_U, neg_is, mul_is, div_is, add_is, Sum, sum_is, sub_opens, either, pp_is, swap-pp, swap-nn}
+use Rattle.floats.proofs.Rounding.{rnd, rnd_fix, rnd-mono, rnd_same, below_or_from}
+use Rattle.floats.proofs.Rounding.Units.{U, O, U_pos, U_O, Is, sign, mag, Held, is_of, is_same, is_finite_lem, pp, nn, Below, le_of_below, below_of-le, round_units, round_over, rnd_U, neg_is, mul_is, div_is, add_is, Sum, sum_is, sub_opens, either, pp_is, swap_pp, swap_nn}
 use Rattle.floats.specs.Float.{f1, f0}
 
 abbrev B : Format
@@ -56,7 +56,7 @@ held_of x s a f h = let k = is_of x (is_finite_lem x s a h) f in subst Held (is_
 
 pub rnd_O : rnd 53 O 1 ≡ O
 unfolding O
-rnd_O = rnd-fix 53 1 2098 (lit< tt)
+rnd_O = rnd_fix 53 1 2098 (lit< tt)
 
 -- against a number k that rounding does not change
 pub rnd-ge : (k n c : ℕ) → 0 < c → rnd 53 k 1 ≡ k → k * c ≤ n → k ≤ rnd 53 n c
@@ -69,15 +69,15 @@ pub rnd_O-le : (n c : ℕ) → 0 < c → O * c ≤ n → O ≤ rnd 53 n c
 rnd_O-le n c C h = rnd-ge O n c C rnd_O h
 
 pub rnd-zero : (c : ℕ) → 0 < c → rnd 53 0 c ≡ 0
-rnd-zero c C = rnd_same 53 0 c 0 1 (lit< tt) C (lit< tt) (omega arith) ∙ rnd-fix 53 0 0 (lit< tt)
+rnd-zero c C = rnd_same 53 0 c 0 1 (lit< tt) C (lit< tt) (omega arith) ∙ rnd_fix 53 0 0 (lit< tt)
 
 pub U_held : Held U
 unfolding U
-U_held = (rnd-fix 53 1 1074 (lit< tt), U_O)
+U_held = (rnd_fix 53 1 1074 (lit< tt), U_O)
 
 pub two_U : rnd 53 (2 * U) 1 ≡ 2 * U
 unfolding U
-two_U = rnd-fix 53 1 1075 (lit< tt)
+two_U = rnd_fix 53 1 1075 (lit< tt)
 
 pub two_O : 2 * U < O
 unfolding U O
@@ -143,11 +143,11 @@ finite_ext x a (inr p) f = absurd (subst (λ (z : Float). T (finite z)) p.1 f)
 pub nil_ext : Ext f0 0
 nil_ext = inl (lt_of_le_of_lt zero-le U_O, (false, nil_is, refl))
 
-pub unit-fine : Fine f1 U
-unit-fine = (false, unit_is, refl)
+pub unit_fine : Fine f1 U
+unit_fine = (false, unit_is, refl)
 
 pub unit_ext : Ext f1 U
-unit_ext = inl (U_O, unit-fine)
+unit_ext = inl (U_O, unit_fine)
 
 -- ---- rounding
 nn_keeps : (s : Bool) (a r : ℕ) → nn s a ≡ 0 → (a ≡ 0 → r ≡ 0) → nn s r ≡ 0
@@ -157,7 +157,7 @@ nn_keeps true a r h f = f h
 pub round_ext : (s : Bool) (a c : ℕ) → 0 < c → nn s a ≡ 0 → Ext (round B s a c) (rnd 53 (a * U) c)
 round_ext s a c C h =
     elim (below_or_from (rnd 53 (a * U) c) O) [
-      | inl l ↦ inl (l, (s, round-units s a c l, nn_keeps s a (rnd 53 (a * U) c) h null))
+      | inl l ↦ inl (l, (s, round_units s a c l, nn_keeps s a (rnd 53 (a * U) c) h null))
       | inr g ↦ inr (g, over s h g)
     ]
   where
@@ -226,8 +226,8 @@ plus true s t δ a b p q e = omega (arith, pp_is s a p, pp_is t b q)
 
 less : (σ s t : Bool) (δ a b : ℕ) → nn s a ≡ 0 → nn t b ≡ 0 → b ≤ a → pp σ δ + (nn s a + nn (not t) b) ≡ nn σ δ + (pp s a + pp (not t) b)
     → (nn σ δ ≡ 0) × (δ ≡ a - b)
-less false s t δ a b p q h e = (refl, omega (arith, pp_is s a p, pp_is t b q, swap-pp t b, swap-nn t b))
-less true s t δ a b p q h e = omega (arith, pp_is s a p, pp_is t b q, swap-pp t b, swap-nn t b)
+less false s t δ a b p q h e = (refl, omega (arith, pp_is s a p, pp_is t b q, swap_pp t b, swap_nn t b))
+less true s t δ a b p q h e = omega (arith, pp_is s a p, pp_is t b q, swap_pp t b, swap_nn t b)
 
 add-fine : (x y : Float) (a b : ℕ) → Fine x a → Fine y b → Ext (add B x y) (rnd 53 (a + b) 1)
 add-fine x y a b p q =

@@ -1,4 +1,4 @@
--- `<` on the finite values of the format, by value: two are never below each other (`lt-asym`), and where y is below x and not below z, z is below x (`lt-cotrans`).
+-- `<` on the finite values of the format, by value: two are never below each other (`lt_asym`), and where y is below x and not below z, z is below x (`lt_cotrans`).
 -- By the two comparisons' tests on whole numbers: of two finite values either the first is below the second, or the second is at most the first.
 use mathlib.Core.Bool.{Bool, true, false, ◌||◌}
 use mathlib.Core.Logic.{inl, inr}
@@ -39,17 +39,17 @@ lt_not_le (lib.Ieee.inf _) y f g p q = elim f [ ]
 lt_not_le (fin s m e) lib.Ieee.nan f g p q = elim g [ ]
 lt_not_le (fin s m e) (lib.Ieee.inf _) f g p q = elim g [ ]
 
-not_lt-le : (x y : Float) → T (is_finite x) → T (is_finite y) → (T (lt x y) → ⊥) → T (le y x)
+not_lt_le : (x y : Float) → T (is_finite x) → T (is_finite y) → (T (lt x y) → ⊥) → T (le y x)
 unfolding lt le is_finite
-not_lt-le (fin s m e) (fin t n d) f g p =
+not_lt_le (fin s m e) (fin t n d) f g p =
     below→test t s (n * up d * down e) (m * up e * down d) (not_below s t (m * up e * down d) (n * up d * down e) p)
-not_lt-le lib.Ieee.nan y f g p = elim f [ ]
-not_lt-le (lib.Ieee.inf _) y f g p = elim f [ ]
-not_lt-le (fin s m e) lib.Ieee.nan f g p = elim g [ ]
-not_lt-le (fin s m e) (lib.Ieee.inf _) f g p = elim g [ ]
+not_lt_le lib.Ieee.nan y f g p = elim f [ ]
+not_lt_le (lib.Ieee.inf _) y f g p = elim f [ ]
+not_lt_le (fin s m e) lib.Ieee.nan f g p = elim g [ ]
+not_lt_le (fin s m e) (lib.Ieee.inf _) f g p = elim g [ ]
 
-not_le-lt : (x y : Float) → T (is_finite x) → T (is_finite y) → (T (le y x) → ⊥) → T (lt x y)
-not_le-lt x y f g n = go (lt x y) (not_lt-le x y f g)
+not_le_lt : (x y : Float) → T (is_finite x) → T (is_finite y) → (T (le y x) → ⊥) → T (lt x y)
+not_le_lt x y f g n = go (lt x y) (not_lt_le x y f g)
   where
     go : (b : Bool) → ((T b → ⊥) → T (le y x)) → T b
     go true h = tt
@@ -63,11 +63,11 @@ le_of_lt x y t = go (lt x y) t
     go true t = tt
     go false t = elim t [ ]
 
-pub lt-asym : (x y : Float) → Finite x → Finite y → T (lt x y) → T (lt y x) → ⊥
-lt-asym x y f g p q = lt_not_le x y f.finite_x g.finite_x p (le_of_lt y x q)
+pub lt_asym : (x y : Float) → Finite x → Finite y → T (lt x y) → T (lt y x) → ⊥
+lt_asym x y f g p q = lt_not_le x y f.finite_x g.finite_x p (le_of_lt y x q)
 
-pub lt-cotrans : (x y z : Float) → Finite x → Finite y → Finite z → T (lt y x) → (T (lt y z) → ⊥) → T (lt z x)
-lt-cotrans x y z f g h p n =
-    not_le-lt z x h.finite_x f.finite_x
+pub lt_cotrans : (x y z : Float) → Finite x → Finite y → Finite z → T (lt y x) → (T (lt y z) → ⊥) → T (lt z x)
+lt_cotrans x y z f g h p n =
+    not_le_lt z x h.finite_x f.finite_x
     (λ q. lt_not_le y x g.finite_x f.finite_x p
-    (le_trans-fits x z y f.fits_x h.fits_x g.fits_x q (not_lt-le y z g.finite_x h.finite_x n)))
+    (le_trans-fits x z y f.fits_x h.fits_x g.fits_x q (not_lt_le y z g.finite_x h.finite_x n)))

@@ -16,9 +16,9 @@ use lib.Ieee.Digits.{size-le}
 use lib.Ieee.Fits.{add-fits}
 use lib.Ieee.Order.{drop}
 use lib.Ieee.Scale.{finite}
-use Rattle.floats.proofs.Rounding.{rnd, Near, rnd-mono, rnd-err}
-use Rattle.floats.proofs.Rounding.Units.{U, O, U_is, U_pos, U_O, Is, unique, pp, nn, round-units, round_whole, neg_is, div_is, add_is, sum_is, sub_opens, pp_is, swap-pp, swap-nn}
-use Rattle.floats.proofs.Rounding.NonNegative.{unit_is, Fine, Ext, ext_of, le_ext, unit_ext, mul_ext, div_ext, sub-fine, add_ext, fine_of, share_of, inside, fine_under, lt-le, lt-nil_pos, U_held, unit-fine, square_ext}
+use Rattle.floats.proofs.Rounding.{rnd, Near, rnd-mono, rnd_err}
+use Rattle.floats.proofs.Rounding.Units.{U, O, U_is, U_pos, U_O, Is, unique, pp, nn, round_units, round_whole, neg_is, div_is, add_is, sum_is, sub_opens, pp_is, swap_pp, swap_nn}
+use Rattle.floats.proofs.Rounding.NonNegative.{unit_is, Fine, Ext, ext_of, le_ext, unit_ext, mul_ext, div_ext, sub-fine, add_ext, fine_of, share_of, inside, fine_under, lt-le, lt-nil_pos, U_held, unit_fine, square_ext}
 use Rattle.floats.specs.Float.{f1, f0}
 
 abbrev B : Format
@@ -43,8 +43,8 @@ weight p w fp fw p0 pf w0 w1 =
 
 -- ---- a quotient
 -- by sizes: for a ≤ b with b above 0 and below the infinity
-pub div-units : (x y : Float) (a b : ℕ) → Fine x a → Fine y b → 0 < b → a ≤ b → Share (div B x y)
-div-units x y a b p q b0 l =
+pub div_units : (x y : Float) (a b : ℕ) → Fine x a → Fine y b → 0 < b → a ≤ b → Share (div B x y)
+div_units x y a b p q b0 l =
     inside (div B x y) f1 (rnd 53 (a * U) b) U (div_ext x y a b p q b0) unit_ext U_O
     (le_trans (rnd-mono 53 (a * U) b U 1 (lit< tt) b0 (lit< tt) (let k = mul-le-mul_right U l in omega arith)) (le_of_eq U_held.0))
 
@@ -54,7 +54,7 @@ quotient a b fa fb a0 ab b0 bf =
     let y = fine_of b fb (lt-le f0 b b0) bf in
     let x = ext_of a fa a0 in
     let l : x.0 ≤ y.0 = le_ext a b x.0 y.0 x.1 (inl (y.2, y.1)) y.2 ab in
-    div-units a b x.0 y.0 (fine_under a x.0 x.1 (lt_of_le_of_lt l y.2)) y.1 (lt-nil_pos b y.0 y.1 b0) l
+    div_units a b x.0 y.0 (fine_under a x.0 x.1 (lt_of_le_of_lt l y.2)) y.1 (lt-nil_pos b y.0 y.1 b0) l
 
 -- ---- shares: x and 1 - x
 -- what lies that near to 1 rounds to 1
@@ -95,15 +95,15 @@ rnd_H n h = elim (eq-or-lt_of_le h) [
   | inl e ↦ subst (λ (z : ℕ). Near (rnd 53 z 1) z H) (sym e) (let g = U_held.0 in omega arith)
   | inr l ↦
       halve (rnd 53 n 1) n H (1 * 2 ^ drop 53 n 1) (le_trans (mul-le-mul_left 1 (pow_mono (drop_U n l))) (le_of_eq twice_H))
-      (rnd-err 53 n 1 (lit< tt))
+      (rnd_err 53 n 1 (lit< tt))
 ]
   where
     halve : (r n e d : ℕ) → d ≤ 2 * e → Near (2 * (r * 1)) (2 * n) d → Near r n e
     halve r n e d k p = omega arith
 
-unit-fits : T (fits B f1)
+unit_fits : T (fits B f1)
 unfolding fits
-unit-fits = tt
+unit_fits = tt
 
 sign_is : (s : Bool) → nn s U ≡ 0 → s ≡ false
 sign_is false h = refl
@@ -115,7 +115,7 @@ shares x f x0 x1 =
     let a = share_of x f x0 x1 in
     let y = sub B f1 x in
     let b = rnd 53 (U - a.0) 1 in
-    let Y : Ext y b = sub-fine f1 x U a.0 unit-fine a.1 a.2 in
+    let Y : Ext y b = sub-fine f1 x U a.0 unit_fine a.1 a.2 in
     let bU : b ≤ U =
     le_trans (rnd-mono 53 (U - a.0) 1 U 1 (lit< tt) (lit< tt) (lit< tt) (mul-le-mul_right 1 (sub-le U a.0)))
     (le_of_eq U_held.0) in
@@ -127,7 +127,7 @@ shares x f x0 x1 =
       i.0,
       i.1,
       i.2,
-      unique (add B x y) f1 false U (add-fits B x y) unit-fits
+      unique (add B x y) f1 false U (add-fits B x y) unit_fits
           (subst (λ (s : Bool). Is (add B x y) s U) (sign_is F.0 F.2) F.1) unit_is,
     )
 
@@ -142,8 +142,8 @@ record Diff (x y : Float) (a b : ℕ) : Type 0 where
 
 size-le_sum : (σ s t : Bool) (δ a b : ℕ) → nn s a ≡ 0 → nn t b ≡ 0 → pp σ δ + (nn s a + nn (not t) b) ≡ nn σ δ + (pp s a + pp (not t) b)
     → (δ ≤ a) ⊎ (δ ≤ b)
-size-le_sum false s t δ a b p q e = inl (omega (arith, pp_is s a p, pp_is t b q, swap-pp t b, swap-nn t b))
-size-le_sum true s t δ a b p q e = inr (omega (arith, pp_is s a p, pp_is t b q, swap-pp t b, swap-nn t b))
+size-le_sum false s t δ a b p q e = inl (omega (arith, pp_is s a p, pp_is t b q, swap_pp t b, swap_nn t b))
+size-le_sum true s t δ a b p q e = inr (omega (arith, pp_is s a p, pp_is t b q, swap_pp t b, swap_nn t b))
 
 pub rnd_mono1 : (a b : ℕ) → a ≤ b → rnd 53 a 1 ≤ rnd 53 b 1
 rnd_mono1 a b h = rnd-mono 53 a 1 b 1 (lit< tt) (lit< tt) (lit< tt) (omega arith)
@@ -184,14 +184,14 @@ div_by_inf (fin u m e) s a h = (unlike u false, (refl, omega arith))
 div_by_inf lib.Ieee.nan s a h = elim h [ ]
 div_by_inf (inf _) s a h = elim h [ ]
 
-div-signed : (x y : Float) (s t : Bool) (a b : ℕ) → Is x s a → Is y t b → 0 < b → a ≤ b
+div_signed : (x y : Float) (s t : Bool) (a b : ℕ) → Is x s a → Is y t b → 0 < b → a ≤ b
     → Is (div B x y) (unlike s t) (rnd 53 (a * U) b) × (rnd 53 (a * U) b ≤ U)
-div-signed x y s t a b h k b0 l =
+div_signed x y s t a b h k b0 l =
     let u : rnd 53 (a * U) b ≤ U =
     le_trans (rnd-mono 53 (a * U) b U 1 (lit< tt) b0 (lit< tt) (let k = mul-le-mul_right U l in omega arith))
     (le_of_eq U_held.0) in (
       subst (λ (z : Float). Is z (unlike s t) (rnd 53 (a * U) b)) (sym (div_is x y s t a b h k b0))
-          (round-units (unlike s t) a b (lt_of_le_of_lt u U_O)),
+          (round_units (unlike s t) a b (lt_of_le_of_lt u U_O)),
       u,
     )
 
@@ -207,7 +207,7 @@ contrast x y fx fy x0 xf y0 yf S0 =
         → let q = div B (sub B x y) (add B x y) in Share (mul B q q)
     go d S e (inl p) =
         let r =
-        div-signed (sub B x y) (add B x y) d.sig p.1.0 d.size S d.is p.1.1 (lt-nil_pos (add B x y) S p.1 S0)
+        div_signed (sub B x y) (add B x y) d.sig p.1.0 d.size S d.is p.1.1 (lt-nil_pos (add B x y) S p.1 S0)
         (le_trans d.small (le_of_eq e)) in
         square (div B (sub B x y) (add B x y)) (unlike d.sig p.1.0) (rnd 53 (d.size * U) S) r.0 r.1
     go d S e (inr p) =

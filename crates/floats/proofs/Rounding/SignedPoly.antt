@@ -1,5 +1,5 @@
 -- Signed numbers as pairs of naturals, p - n. Their sums and products obey the laws of a commutative semiring strictly, so polynomial identities are decided by computation, and so are bounds.
--- Proved: an expression whose normal form cancels is zero (`poly`), two expressions that differ by nothing have the same size (`ab-poly`); the size of sums and products (`ab-add`, `ab-mul`);
+-- Proved: an expression whose normal form cancels is zero (`poly`), two expressions that differ by nothing have the same size (`ab_poly`); the size of sums and products (`ab-add`, `ab-mul`);
 -- and a bound on the size of a homogeneous polynomial, computed from bounds on its variables (`bounded`). `Bd j a b`: 2 ^ 64 times the size of a is at most b * U ^ j.
 use mathlib.Core.Path.{◌≡◌, refl, sym, ap, ◌∙◌, subst}
 use mathlib.Core.Logic.{◌⊎◌, inl, inr}
@@ -123,10 +123,10 @@ unfolding insert_at
 insert i [] = i ∷ []
 insert i (j ∷ l) = let r = insert i l in insert_at (leb i j) i j l r
 
-insert-ok : (ρ : List R) (i : ℕ) (l : List ℕ) → prod ρ (insert i l) ≡ at ρ i ⊠ prod ρ l
+insert_ok : (ρ : List R) (i : ℕ) (l : List ℕ) → prod ρ (insert i l) ≡ at ρ i ⊠ prod ρ l
 unfolding insert prod
-insert-ok ρ i [] = refl
-insert-ok ρ i (j ∷ l) = go (leb i j) (insert-ok ρ i l)
+insert_ok ρ i [] = refl
+insert_ok ρ i (j ∷ l) = go (leb i j) (insert_ok ρ i l)
   where
     go : (b : Bool) → prod ρ (insert i l) ≡ at ρ i ⊠ prod ρ l → prod ρ (insert_at b i j l (insert i l)) ≡ at ρ i ⊠ (at ρ j ⊠ prod ρ l)
     go true ih = refl
@@ -137,10 +137,10 @@ unfolding insert
 merge [] m = m
 merge (i ∷ l) m = insert i (merge l m)
 
-merge-ok : (ρ : List R) (l m : List ℕ) → prod ρ (merge l m) ≡ prod ρ l ⊠ prod ρ m
+merge_ok : (ρ : List R) (l m : List ℕ) → prod ρ (merge l m) ≡ prod ρ l ⊠ prod ρ m
 unfolding merge prod
-merge-ok ρ [] m = sym (⊠-one (prod ρ m))
-merge-ok ρ (i ∷ l) m = insert-ok ρ i (merge l m) ∙ ap (λ (z : R). at ρ i ⊠ z) (merge-ok ρ l m) ∙ sym (⊠-assoc (at ρ i) (prod ρ l) (prod ρ m))
+merge_ok ρ [] m = sym (⊠-one (prod ρ m))
+merge_ok ρ (i ∷ l) m = insert_ok ρ i (merge l m) ∙ ap (λ (z : R). at ρ i ⊠ z) (merge_ok ρ l m) ∙ sym (⊠-assoc (at ρ i) (prod ρ l) (prod ρ m))
 
 same : List ℕ → List ℕ → Bool
 same [] [] = true
@@ -180,10 +180,10 @@ coef_add : (c c' d d' : ℕ) → ◌≡◌ {A = R} (c + d, c' + d') ((c, c') ⊞
 unfolding ◌⊞◌
 coef_add c c' d d' = refl
 
-put-ok : (ρ : List R) (c c' : ℕ) (l : List ℕ) (p : List Mono) → val ρ (put c c' l p) ≡ (c, c') ⊠ prod ρ l ⊞ val ρ p
+put_ok : (ρ : List R) (c c' : ℕ) (l : List ℕ) (p : List Mono) → val ρ (put c c' l p) ≡ (c, c') ⊠ prod ρ l ⊞ val ρ p
 unfolding put val
-put-ok ρ c c' l [] = refl
-put-ok ρ c c' l (mono d d' m ∷ p) = go (same l m) (same_ok l m) (before l m) (put-ok ρ c c' l p)
+put_ok ρ c c' l [] = refl
+put_ok ρ c c' l (mono d d' m ∷ p) = go (same l m) (same_ok l m) (before l m) (put_ok ρ c c' l p)
   where
     go : (s : Bool) → (T s → l ≡ m) → (b : Bool) → val ρ (put c c' l p) ≡ (c, c') ⊠ prod ρ l ⊞ val ρ p
         → val ρ (add_at s b c c' l d d' m p (put c c' l p)) ≡ (c, c') ⊠ prod ρ l ⊞ ((d, d') ⊠ prod ρ m ⊞ val ρ p)
@@ -200,10 +200,10 @@ unfolding put
 plus [] q = q
 plus (mono c d l ∷ p) q = put c d l (plus p q)
 
-plus-ok : (ρ : List R) (p q : List Mono) → val ρ (plus p q) ≡ val ρ p ⊞ val ρ q
+plus_ok : (ρ : List R) (p q : List Mono) → val ρ (plus p q) ≡ val ρ p ⊞ val ρ q
 unfolding plus val
-plus-ok ρ [] q = sym (⊞-comm (nat 0) (val ρ q) ∙ ⊞-zero (val ρ q))
-plus-ok ρ (mono c d l ∷ p) q = put-ok ρ c d l (plus p q) ∙ ap (λ (z : R). (c, d) ⊠ prod ρ l ⊞ z) (plus-ok ρ p q) ∙ sym (⊞-assoc ((c, d) ⊠ prod ρ l) (val ρ p) (val ρ q))
+plus_ok ρ [] q = sym (⊞-comm (nat 0) (val ρ q) ∙ ⊞-zero (val ρ q))
+plus_ok ρ (mono c d l ∷ p) q = put_ok ρ c d l (plus p q) ∙ ap (λ (z : R). (c, d) ⊠ prod ρ l ⊞ z) (plus_ok ρ p q) ∙ sym (⊞-assoc ((c, d) ⊠ prod ρ l) (val ρ p) (val ρ q))
 
 scale : ℕ → ℕ → List ℕ → List Mono → List Mono → List Mono
 unfolding put merge
@@ -225,9 +225,9 @@ scale_ok : (ρ : List R) (c c' : ℕ) (l : List ℕ) (p r : List Mono) → val �
 unfolding scale val
 scale_ok ρ c c' l [] r = sym (ap (λ (z : R). z ⊞ val ρ r) (⊠-comm ((c, c') ⊠ prod ρ l) (nat 0) ∙ ⊠-zero ((c, c') ⊠ prod ρ l)) ∙ ⊞-comm (nat 0) (val ρ r) ∙ ⊞-zero (val ρ r))
 scale_ok ρ c c' l (mono d d' m ∷ p) r =
-    put-ok ρ (c * d + c' * d') (c * d' + c' * d) (merge l m) (scale c c' l p r)
+    put_ok ρ (c * d + c' * d') (c * d' + c' * d) (merge l m) (scale c c' l p r)
     ∙ ap (λ (z : R). z ⊠ prod ρ (merge l m) ⊞ val ρ (scale c c' l p r)) (coef_mul c c' d d')
-    ∙ ap (λ (z : R). (c, c') ⊠ (d, d') ⊠ z ⊞ val ρ (scale c c' l p r)) (merge-ok ρ l m) ∙ ap (λ (z : R). (c, c') ⊠ (d, d') ⊠ (prod ρ l ⊠ prod ρ m) ⊞ z) (scale_ok ρ c c' l p r)
+    ∙ ap (λ (z : R). (c, c') ⊠ (d, d') ⊠ z ⊞ val ρ (scale c c' l p r)) (merge_ok ρ l m) ∙ ap (λ (z : R). (c, c') ⊠ (d, d') ⊠ (prod ρ l ⊠ prod ρ m) ⊞ z) (scale_ok ρ c c' l p r)
     ∙ shape (c, c') (d, d') (prod ρ l) (prod ρ m) (val ρ p) (val ρ r)
 
 times : List Mono → List Mono → List Mono
@@ -235,10 +235,10 @@ unfolding scale
 times [] q = []
 times (mono c d l ∷ p) q = scale c d l q (times p q)
 
-times-ok : (ρ : List R) (p q : List Mono) → val ρ (times p q) ≡ val ρ p ⊠ val ρ q
+times_ok : (ρ : List R) (p q : List Mono) → val ρ (times p q) ≡ val ρ p ⊠ val ρ q
 unfolding times val
-times-ok ρ [] q = sym (⊠-zero (val ρ q))
-times-ok ρ (mono c d l ∷ p) q = scale_ok ρ c d l q (times p q) ∙ ap (λ (z : R). (c, d) ⊠ prod ρ l ⊠ val ρ q ⊞ z) (times-ok ρ p q) ∙ sym (⊠-add ((c, d) ⊠ prod ρ l) (val ρ p) (val ρ q))
+times_ok ρ [] q = sym (⊠-zero (val ρ q))
+times_ok ρ (mono c d l ∷ p) q = scale_ok ρ c d l q (times p q) ∙ ap (λ (z : R). (c, d) ⊠ prod ρ l ⊠ val ρ q ⊞ z) (times_ok ρ p q) ∙ sym (⊠-add ((c, d) ⊠ prod ρ l) (val ρ p) (val ρ q))
 
 unfoldable norm : Ex → List Mono
 unfolding plus times
@@ -248,15 +248,15 @@ norm (a ∔ b) = plus (norm a) (norm b)
 norm (a ⋆ b) = times (norm a) (norm b)
 norm (minus a) = scale 0 1 [] (norm a) []
 
-norm-ok : (ρ : List R) (a : Ex) → val ρ (norm a) ≡ eval ρ a
+norm_ok : (ρ : List R) (a : Ex) → val ρ (norm a) ≡ eval ρ a
 unfolding norm val prod
-norm-ok ρ (va i) = ⊞-zero (nat 1 ⊠ (at ρ i ⊠ nat 1)) ∙ ⊠-one (at ρ i ⊠ nat 1) ∙ ⊠-comm (at ρ i) (nat 1) ∙ ⊠-one (at ρ i)
-norm-ok ρ (li n) = ⊞-zero (nat n ⊠ nat 1) ∙ ⊠-comm (nat n) (nat 1) ∙ ⊠-one (nat n)
-norm-ok ρ (a ∔ b) = plus-ok ρ (norm a) (norm b) ∙ ap (λ (z : R). z ⊞ val ρ (norm b)) (norm-ok ρ a) ∙ ap (λ (z : R). eval ρ a ⊞ z) (norm-ok ρ b)
-norm-ok ρ (a ⋆ b) = times-ok ρ (norm a) (norm b) ∙ ap (λ (z : R). z ⊠ val ρ (norm b)) (norm-ok ρ a) ∙ ap (λ (z : R). eval ρ a ⊠ z) (norm-ok ρ b)
-norm-ok ρ (minus a) =
+norm_ok ρ (va i) = ⊞-zero (nat 1 ⊠ (at ρ i ⊠ nat 1)) ∙ ⊠-one (at ρ i ⊠ nat 1) ∙ ⊠-comm (at ρ i) (nat 1) ∙ ⊠-one (at ρ i)
+norm_ok ρ (li n) = ⊞-zero (nat n ⊠ nat 1) ∙ ⊠-comm (nat n) (nat 1) ∙ ⊠-one (nat n)
+norm_ok ρ (a ∔ b) = plus_ok ρ (norm a) (norm b) ∙ ap (λ (z : R). z ⊞ val ρ (norm b)) (norm_ok ρ a) ∙ ap (λ (z : R). eval ρ a ⊞ z) (norm_ok ρ b)
+norm_ok ρ (a ⋆ b) = times_ok ρ (norm a) (norm b) ∙ ap (λ (z : R). z ⊠ val ρ (norm b)) (norm_ok ρ a) ∙ ap (λ (z : R). eval ρ a ⊠ z) (norm_ok ρ b)
+norm_ok ρ (minus a) =
     scale_ok ρ 0 1 [] (norm a) [] ∙ ⊞-zero ((0, 1) ⊠ nat 1 ⊠ val ρ (norm a))
-    ∙ ap (λ (z : R). z ⊠ val ρ (norm a)) (⊠-comm (0, 1) (nat 1) ∙ ⊠-one (0, 1)) ∙ ap (λ (z : R). (0, 1) ⊠ z) (norm-ok ρ a) ∙ sym (inv_is (eval ρ a))
+    ∙ ap (λ (z : R). z ⊠ val ρ (norm a)) (⊠-comm (0, 1) (nat 1) ∙ ⊠-one (0, 1)) ∙ ap (λ (z : R). (0, 1) ⊠ z) (norm_ok ρ a) ∙ sym (inv_is (eval ρ a))
 
 -- every coefficient cancels
 zeros : List Mono → Bool
@@ -270,10 +270,10 @@ zero_more : (c d : ℕ) (x y : R) → c ≡ d → Zero y → Zero ((c, d) ⊠ x 
 unfolding ◌⊠◌ ◌⊞◌
 zero_more c d x y e h = let e' = ap (λ (z : ℕ). z * x.0) e in let e'' = ap (λ (z : ℕ). z * x.1) e in omega arith
 
-zeros-ok : (ρ : List R) (p : List Mono) → T (zeros p) → Zero (val ρ p)
+zeros_ok : (ρ : List R) (p : List Mono) → T (zeros p) → Zero (val ρ p)
 unfolding zeros val
-zeros-ok ρ [] t = refl
-zeros-ok ρ (mono c d l ∷ p) t = zero_more c d (prod ρ l) (val ρ p) (eqb→eq c d (and_l (eqb c d) (zeros p) t)) (zeros-ok ρ p (and_r (eqb c d) (zeros p) t))
+zeros_ok ρ [] t = refl
+zeros_ok ρ (mono c d l ∷ p) t = zero_more c d (prod ρ l) (val ρ p) (eqb→eq c d (and_l (eqb c d) (zeros p) t)) (zeros_ok ρ p (and_r (eqb c d) (zeros p) t))
 
 unfoldable pub vanishes : Ex → Bool
 unfolding norm zeros
@@ -281,7 +281,7 @@ vanishes a = zeros (norm a)
 
 pub poly : (ρ : List R) (a : Ex) → T (vanishes a) → Zero (eval ρ a)
 unfolding vanishes
-poly ρ a t = subst Zero (norm-ok ρ a) (zeros-ok ρ (norm a) t)
+poly ρ a t = subst Zero (norm_ok ρ a) (zeros_ok ρ (norm a) t)
 
 -- ---- the size
 unfoldable pub ab : R → ℕ
@@ -329,8 +329,8 @@ unfolding ab ◌⊞◌ inv
 ab_same a b h = omega arith
 
 -- by an identity of polynomials
-pub ab-poly : (ρ : List R) (a b : Ex) → T (vanishes (a ∔ minus b)) → ab (eval ρ a) ≡ ab (eval ρ b)
-ab-poly ρ a b t = ab_same (eval ρ a) (eval ρ b) (poly ρ (a ∔ minus b) t)
+pub ab_poly : (ρ : List R) (a b : Ex) → T (vanishes (a ∔ minus b)) → ab (eval ρ a) ≡ ab (eval ρ b)
+ab_poly ρ a b t = ab_same (eval ρ a) (eval ρ b) (poly ρ (a ∔ minus b) t)
 
 -- ---- bounds by computation: a is at most b / Q in size, in units of U ^ j
 abbrev pub Q : ℕ
@@ -370,7 +370,7 @@ bd_mul i j a b c d h k = rw (ab-mul, pow-add) (go (ab a) (ab b) (U ^ i) (U ^ j) 
     go x y z w n h = le_of_mul-le-mul_right {k = Q} (le_trans (reg Q x y z w h) (le_trans (mul-le-mul_right (z * w) (up (c * d))) (le_of_eq (omega arith)))) (lit< tt)
 
 pub bd_poly : (ρ : List R) (a b : Ex) (j c : ℕ) → T (vanishes (a ∔ minus b)) → Bd j (eval ρ a) c → Bd j (eval ρ b) c
-bd_poly ρ a b j c t h = subst (λ (z : ℕ). Q * z ≤ c * U ^ j) (ab-poly ρ a b t) h
+bd_poly ρ a b j c t h = subst (λ (z : ℕ). Q * z ≤ c * U ^ j) (ab_poly ρ a b t) h
 
 abbrev pub num : List ℕ → ℕ → ℕ
 num l i = get_or l i 0
@@ -449,17 +449,17 @@ unfoldable pub lift : ℕ → Ex → Ex
 lift zero e = e
 lift (suc n) e = va 0 ⋆ lift n e
 
-pub lift-ok : (ρ : List R) (n : ℕ) (e : Ex) → eval (nat U ∷ ρ) (lift n e) ≡ sc n (eval (nat U ∷ ρ) e)
+pub lift_ok : (ρ : List R) (n : ℕ) (e : Ex) → eval (nat U ∷ ρ) (lift n e) ≡ sc n (eval (nat U ∷ ρ) e)
 unfolding lift sc
-lift-ok ρ zero e = sym (ap (λ (z : ℕ). nat z ⊠ eval (nat U ∷ ρ) e) (pow-zero U) ∙ ⊠-one (eval (nat U ∷ ρ) e))
-lift-ok ρ (suc n) e =
-    ap (λ (z : R). nat U ⊠ z) (lift-ok ρ n e)
+lift_ok ρ zero e = sym (ap (λ (z : ℕ). nat z ⊠ eval (nat U ∷ ρ) e) (pow-zero U) ∙ ⊠-one (eval (nat U ∷ ρ) e))
+lift_ok ρ (suc n) e =
+    ap (λ (z : R). nat U ⊠ z) (lift_ok ρ n e)
     ∙ sym (⊠-assoc (nat U) (nat (U ^ n)) (eval (nat U ∷ ρ) e))
     ∙ ap (λ (z : R). z ⊠ eval (nat U ∷ ρ) e) (sym (nat-mul U (U ^ n)) ∙ ap (λ (z : ℕ). nat z) (sym (pow-succ' U n)))
 
 pub ab-near : (z w : R) → ab z ≤ ab (z ⊞ inv w) + ab w
 unfolding vanishes
-ab-near z w = le_trans (le_of_eq (ab-poly (z ∷ w ∷ []) (va 0) (va 0 ∔ minus (va 1) ∔ va 1) tt)) (ab-add (z ⊞ inv w) w)
+ab-near z w = le_trans (le_of_eq (ab_poly (z ∷ w ∷ []) (va 0) (va 0 ∔ minus (va 1) ∔ va 1) tt)) (ab-add (z ⊞ inv w) w)
 
 pub bd_near : (j : ℕ) (z w : R) (c d : ℕ) → Bd j (z ⊞ inv w) c → Bd j w d → Bd j z (c + d)
 bd_near j z w c d h g = two_bounds (ab z) (ab (z ⊞ inv w)) (ab w) c d (U ^ j) (ab-near z w) h g

@@ -15,7 +15,7 @@ use lib.Ieee.{Float, nan, inf, fin, Format, binary64, unlike, up, down, sum, rou
 use lib.Ieee.Fits.{eq→eqb, up_pos, down_pos}
 use lib.Ieee.Scale.{finite}
 use Rattle.floats.proofs.Rounding.{rnd, below_or_from}
-use Rattle.floats.proofs.Rounding.Units.{U, O, U_pos, U_O, Is, below→test, test→below, round-units, round_over}
+use Rattle.floats.proofs.Rounding.Units.{U, O, U_pos, U_O, Is, below→test, test→below, round_units, round_over}
 use Rattle.floats.proofs.Rounding.NonNegative.{rnd-zero}
 use Rattle.floats.proofs.Rounding.Shares.{Share}
 use Rattle.floats.specs.Float.{◌⊕◌, ◌⊗◌, ◌⊘◌, f0, f1, max, abs, is_finite}
@@ -48,7 +48,7 @@ is_plus (fin s m e) n h = h.0
 
 round-plus : (a c : ℕ) → Plus (round B false a c)
 round-plus a c = elim (below_or_from (rnd 53 (a * U) c) O) [
-  | inl l ↦ is_plus (round B false a c) (rnd 53 (a * U) c) (round-units false a c l)
+  | inl l ↦ is_plus (round B false a c) (rnd 53 (a * U) c) (round_units false a c l)
   | inr h ↦ subst (λ (z : Float). Plus z) (sym (round_over false a c h)) refl
 ]
 
@@ -67,7 +67,7 @@ round-zero : (s : Bool) (a c : ℕ) → 0 < c → a ≡ 0 → NotNegative (round
 round-zero s a c p h =
     let none : rnd 53 (a * U) c ≡ 0 = ap (λ (n : ℕ). rnd 53 n c) (ap (λ (n : ℕ). n * U) h ∙ zero-mul U) ∙ rnd-zero c p in
     let small = subst (λ (n : ℕ). n < O) (sym none) O-pos in
-    is_zero (round B s a c) s (subst (λ (n : ℕ). Is (round B s a c) s n) none (round-units s a c small))
+    is_zero (round B s a c) s (subst (λ (n : ℕ). Is (round B s a c) s n) none (round_units s a c small))
   where
     O-pos : 0 < O
     O-pos = lt_of_le_of_lt zero-le U_O
@@ -83,8 +83,8 @@ inf_or_nan : (b : Bool) (s : Bool) → s ≡ false → Plus (cond b nan (inf s))
 inf_or_nan true s p = tt
 inf_or_nan false s p = p
 
-rounded-plus : (s : Bool) (a c : ℕ) → s ≡ false → Plus (round B s a c)
-rounded-plus s a c p = subst (λ (t : Bool). Plus (round B t a c)) (sym p) (round-plus a c)
+rounded_plus : (s : Bool) (a c : ℕ) → s ≡ false → Plus (round B s a c)
+rounded_plus s a c p = subst (λ (t : Bool). Plus (round B t a c)) (sym p) (round-plus a c)
 
 -- ---- absolute values, squares, products of two of clear sign
 pub abs-plus : (x : Float) → Plus (abs x)
@@ -101,13 +101,13 @@ mul-plus (inf s) (inf t) p q = unlike-plus s t p q
 mul-plus (inf s) (fin t n d) p q = inf_or_nan (eqb n 0) (unlike s t) (unlike-plus s t p q)
 mul-plus (fin s m e) nan p q = tt
 mul-plus (fin s m e) (inf t) p q = inf_or_nan (eqb m 0) (unlike s t) (unlike-plus s t p q)
-mul-plus (fin s m e) (fin t n d) p q = rounded-plus (unlike s t) (m * up e * (n * up d)) (down e * down d) (unlike-plus s t p q)
+mul-plus (fin s m e) (fin t n d) p q = rounded_plus (unlike s t) (m * up e * (n * up d)) (down e * down d) (unlike-plus s t p q)
 
 pub square-plus : (x : Float) → Plus (x ⊗ x)
 unfolding mul
 square-plus nan = tt
 square-plus (inf s) = unlike_self s
-square-plus (fin s m e) = rounded-plus (unlike s s) (m * up e * (m * up e)) (down e * down e) (unlike_self s)
+square-plus (fin s m e) = rounded_plus (unlike s s) (m * up e * (m * up e)) (down e * down e) (unlike_self s)
 
 pub add-plus : (x y : Float) → Plus x → Plus y → Plus (x ⊕ y)
 unfolding add sum
@@ -160,7 +160,7 @@ mul_not_below (fin s m e) (fin t n d) (inr z) q =
 mul_not_below (fin s m e) (fin t n d) (inl p) (inr z) =
     round-zero (unlike s t) (m * up e * (n * up d)) (down e * down d) (down_down e d) (rw z (omega arith))
 mul_not_below (fin s m e) (fin t n d) (inl p) (inl q) =
-    plus_not_below (round B (unlike s t) a c) (rounded-plus (unlike s t) a c (unlike-plus s t p q))
+    plus_not_below (round B (unlike s t) a c) (rounded_plus (unlike s t) a c (unlike-plus s t p q))
   where
     a : ℕ
     a = m * up e * (n * up d)
@@ -192,7 +192,7 @@ div_not_below (fin s m e) (fin t n d) p q = go (eqb n 0) (eqb-zero n) p
     go : (b : Bool) → (T (not b) → 0 < n) → (s ≡ false) ⊎ (m ≡ 0)
         → NotNegative (cond b (cond (eqb m 0) nan (inf (unlike s t))) (round B (unlike s t) a c))
     go true h k = times_inf m s t q k
-    go false h (inl k) = plus_not_below (round B (unlike s t) a c) (rounded-plus (unlike s t) a c (unlike-plus s t k q))
+    go false h (inl k) = plus_not_below (round B (unlike s t) a c) (rounded_plus (unlike s t) a c (unlike-plus s t k q))
     go false h (inr z) =
         round-zero (unlike s t) a c (mul-pos (mul-pos (h tt) (up_pos d)) (down_pos e)) (rw z (omega arith))
 

@@ -15,10 +15,10 @@ use lib.Dec.{T, ltb, ltb→lt, nltb→le, lit≤, lit<}
 use lib.Pow.{pow-add, pow_mono}
 use lib.Ieee.{Float, nan, inf, fin, Format, binary64, unlike, up, down, below, is_nan, round, neg, le, lt, fits}
 use lib.Ieee.Fits.{up_pos, down_pos}
-use Rattle.floats.proofs.Rounding.{rnd, rnd-fix, below_or_from}
-use Rattle.floats.proofs.Rounding.Units.{U, O, U_is, U_pos, Is, is_of, sign, mag, Below, move, div_is, round-units, round_over, units_pos, le-finite, zero-units, over, over'}
+use Rattle.floats.proofs.Rounding.{rnd, rnd_fix, below_or_from}
+use Rattle.floats.proofs.Rounding.Units.{U, O, U_is, U_pos, Is, is_of, sign, mag, Below, move, div_is, round_units, round_over, units_pos, le-finite, zero_units, over, over'}
 use Rattle.floats.proofs.Rounding.NonNegative.{Ext, none_below, rnd-le, Fine, fine_under}
-use Rattle.floats.proofs.Rounding.Error.{Fin, P, N, M, le_parts, neg-parts, sum_mag, unit-fin, m1_is, one_side, sized, div_sized, parts}
+use Rattle.floats.proofs.Rounding.Error.{Fin, P, N, M, le_parts, neg_parts, sum_mag, unit_fin, m1_is, one_side, sized, div_sized, parts}
 use Rattle.floats.proofs.square_root.WholeRoot.{RootErr}
 use Rattle.floats.proofs.Rounding.SignedPoly.{ab, Q, Bd, from_bd}
 use Rattle.floats.proofs.Rounding.Expression.{rv, pow1, Fl, flo, mg, tame, closed, Vars, sound, size-mag}
@@ -88,17 +88,17 @@ pub f_1_upto : Upto 1 f_1
 unfolding lib.Ieee.fits U
 f_1_upto = record { fin = (tt, tt); size = lit≤ tt }
 
-pub f1-parts : (P f1 ≡ U) × (N f1 ≡ 0)
+pub f1_parts : (P f1 ≡ U) × (N f1 ≡ 0)
 unfolding P N U
-f1-parts = (refl, refl)
+f1_parts = (refl, refl)
 
-pub f0-parts : (P f0 ≡ 0) × (N f0 ≡ 0) × (mag f0 ≡ 0)
+pub f0_parts : (P f0 ≡ 0) × (N f0 ≡ 0) × (mag f0 ≡ 0)
 unfolding P N U
-f0-parts = (refl, refl, refl)
+f0_parts = (refl, refl, refl)
 
-pub f2-units : 1 * 2 ^ 1 * U ≡ 2 * U * 1
+pub f2_units : 1 * 2 ^ 1 * U ≡ 2 * U * 1
 unfolding U
-f2-units = refl
+f2_units = refl
 
 -- ---- the negative
 pub mag-neg : (x : Float) → mag (neg x) ≡ mag x
@@ -108,7 +108,7 @@ mag-neg (inf s) = refl
 mag-neg (fin s m e) = refl
 
 pub neg_upto : (k : ℕ) (x : Float) → Upto k x → Upto k (neg x)
-neg_upto k x h = record { fin = (neg-parts x h.fin).0; size = le_trans (le_of_eq (mag-neg x)) h.size }
+neg_upto k x h = record { fin = (neg_parts x h.fin).0; size = le_trans (le_of_eq (mag-neg x)) h.size }
 
 -- ---- parts: one of the two is 0
 -- from a number that is not negative on
@@ -116,7 +116,7 @@ pub zero_N : (p n a b : ℕ) → a + n ≤ p + b → b ≡ 0 → p + n ≡ (p - 
 zero_N p n a b h k l = omega arith
 
 pub not_neg : (x : Float) → Fin x → T (le f0 x) → N x ≡ 0
-not_neg x f h = zero_N (P x) (N x) (P f0) (N f0) (le_parts f0 x f0_upto.fin f h) f0-parts.1 (one_side x)
+not_neg x f h = zero_N (P x) (N x) (P f0) (N f0) (le_parts f0 x f0_upto.fin f h) f0_parts.1 (one_side x)
 
 -- from -1 to 1
 pub up_to_one : (p n a b c d u : ℕ) → a + n ≤ p + b → p + d ≤ c + n → a ≡ 0 → b ≡ u → c ≡ u → d ≡ 0 → p + n ≡ (p - n) + (n - p)
@@ -125,13 +125,13 @@ up_to_one p n a b c d u h₁ h₂ h₃ h₄ h₅ h₆ h₇ = omega arith
 
 pub upto_one : (x : Float) → Fin x → P f_1 + N x ≤ P x + N f_1 → P x + N f1 ≤ P f1 + N x → Upto 1 x
 upto_one x f h k =
-    let le-one = up_to_one (P x) (N x) (P f_1) (N f_1) (P f1) (N f1) U h k m1_is.0 m1_is.1 f1-parts.0 f1-parts.1 (one_side x) in
+    let le-one = up_to_one (P x) (N x) (P f_1) (N f_1) (P f1) (N f1) U h k m1_is.0 m1_is.1 f1_parts.0 f1_parts.1 (one_side x) in
     record { fin = f; size = le_trans (le_of_eq (sym (sum_mag x))) le-one }
 
 pub in_disk : (x : Float) → T (fits B x) → T (le f_1 x) → T (le x f1) → Upto 1 x
 in_disk x f h k =
     let g : Fin x = (le-finite f_1 x f1 tt tt h k, f) in
-    upto_one x g (le_parts f_1 x (unit-fin true) g h) (le_parts x f1 g (unit-fin false) k)
+    upto_one x g (le_parts f_1 x (unit_fin true) g h) (le_parts x f1 g (unit_fin false) k)
 
 -- ---- tests that fail, and one that passes
 nlt_below : (u v : Bool) (x y : ℕ) → T (not (below u x v y)) → Below v y u x
@@ -204,7 +204,7 @@ none zero e f h = go (mag (fin true zero e)) (is_of (fin true zero e) f.0 f.1).0
   where
     go : (n : ℕ) → 0 * up e * U ≡ n * down e → n ≡ 0
     go zero q = refl
-    go (suc n) q = absurd (zero-units (suc n) e (zero-lt-suc n) q)
+    go (suc n) q = absurd (zero_units (suc n) e (zero-lt-suc n) q)
 none (suc m) e f h = omega (arith, mul-pos (zero-lt-suc m) (up_pos e))
 
 pub max-zero : (k : ℕ) (y : Float) → Upto k y → NonNeg k (max y f0)
@@ -215,7 +215,7 @@ max-zero k (fin false m e) h = subst (λ (z : Float). NonNeg k z) (sym (max_pos 
 max-zero k (fin true m e) h = go (ltb 0 (m * up e * 1 + 0 * 1 * down e)) (nltb→le 0 (m * up e * 1 + 0 * 1 * down e))
   where
     go : (b : Bool) → (T (not b) → m * up e * 1 + 0 * 1 * down e ≤ 0) → NonNeg k (cond b f0 (fin true m e))
-    go true f = record { up = record { fin = f0_upto.fin; size = le_trans (le_of_eq f0-parts.2) zero-le }; nn0 = f0-parts.1 }
+    go true f = record { up = record { fin = f0_upto.fin; size = le_trans (le_of_eq f0_parts.2) zero-le }; nn0 = f0_parts.1 }
     go false f = record { up = h; nn0 = neg-size m e ∙ none m e h.fin (f tt) }
 
 -- ---- roots of what is not negative
@@ -271,7 +271,7 @@ inf_number s = tt
 
 pub round_number : (s : Bool) (a c : ℕ) → Number (round B s a c)
 round_number s a c = elim (below_or_from (rnd 53 (a * U) c) O) [
-  | inl l ↦ is_number (round B s a c) s (rnd 53 (a * U) c) (round-units s a c l)
+  | inl l ↦ is_number (round B s a c) s (rnd 53 (a * U) c) (round_units s a c l)
   | inr h ↦ subst (λ (z : Float). Number z) (sym (round_over s a c h)) (inf_number s)
 ]
 
@@ -298,7 +298,7 @@ room = lit< tt
 pub held_power : (n : ℕ) → n ≤ 100 → Held (2 ^ n)
 held_power n h =
     let e : 2 ^ (n + 1074) ≡ 2 ^ n * U = pow-add 2 n 1074 ∙ ap (λ (z : ℕ). 2 ^ n * z) (sym U_is) in
-    let fixed = rnd-fix 53 1 (n + 1074) (lit< tt) in
+    let fixed = rnd_fix 53 1 (n + 1074) (lit< tt) in
     (subst (λ (z : ℕ). rnd 53 z 1 ≡ z) (one-mul (2 ^ (n + 1074)) ∙ e) fixed, subst (λ (z : ℕ). z < O) e (lt_of_le_of_lt (pow_mono (more n h)) room))
   where
     more : (n : ℕ) → n ≤ 100 → n + 1074 ≤ 1174

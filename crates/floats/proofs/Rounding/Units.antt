@@ -1,7 +1,7 @@
 -- The finite values of binary64 as a sign and a natural number of units, a unit being 2 ^ -1074, the smallest value. `Is x s n`: x
 -- is finite, has the sign s, and is n units in size. One is U units; from O units on a value is the infinity.
 -- Proved: every finite value of the format has a sign and a size that rounding does not change (`is_of`), and they
--- determine it (`unique`); the order (`le_of_below`, `below_of-le`), the rounding (`round-units`, `round_over`)
+-- determine it (`unique`); the order (`le_of_below`, `below_of-le`), the rounding (`round_units`, `round_over`)
 -- and the operations (`neg_is`, `add_is` with `sum_is`, `mul_is`, `div_is`) by sign and units; a product of any two is the same in either order (`product_comm`).
 -- The fractions that the kit's definitions hold are brought over U; two values are the
 -- same since their bit patterns are made from sign and units alone.
@@ -22,7 +22,7 @@ use lib.Ieee.Scale.{round_same, finite}
 use lib.Ieee.Positive.{first_pos}
 use lib.Ieee.Bits.{cond_no, is_true, is_false, of_bits-to_bits}
 use lib.Arith.{le→nltb}
-use Rattle.floats.proofs.Rounding.{rnd, rnd-fix, rnd_same, below_or_from, pow_part}
+use Rattle.floats.proofs.Rounding.{rnd, rnd_fix, rnd_same, below_or_from, pow_part}
 
 abbrev B : Format
 B = binary64
@@ -82,10 +82,10 @@ each false b c d t = elim t [ ]
 each true false c d t = elim t [ ]
 each true true false d t = elim t [ ]
 
-pub fits-parts : (s : Bool) (m : ℕ) (e : ℤ) → T (fits B (fin s (suc m) e))
+pub fits_parts : (s : Bool) (m : ℕ) (e : ℤ) → T (fits B (fin s (suc m) e))
     → (suc m % 2 ≡ 1) × (suc m < 2 ^ 53) × (down e ≤ 2 ^ 1074) × (suc m * up e < 2 ^ 1024 * down e)
 unfolding fits
-fits-parts s m e t =
+fits_parts s m e t =
     let h = each (eqb (suc m % 2) 1) (ltb (suc m) (2 ^ 53)) (leb (down e) (2 ^ 1074)) (ltb (suc m * up e) (2 ^ 1024 * down e)) t in (
       eqb→eq (suc m % 2) 1 h.0,
       ltb→lt (suc m) (2 ^ 53) h.1,
@@ -115,16 +115,16 @@ pub is_of : (x : Float) → T (finite x) → T (fits B x) → Is x (sign x) (mag
 is_of (fin s zero e) f t =
     let v : 0 * up e * U ≡ 0 * down e = omega arith in
     let q : mag (fin s zero e) ≡ 0 = exact 0 e 0 v in
-    ((refl, v ∙ ap (λ (x : ℕ). x * down e) (sym q)), subst Held (sym q) (rnd-fix 53 0 0 (lit< tt), zero_O))
+    ((refl, v ∙ ap (λ (x : ℕ). x * down e) (sym q)), subst Held (sym q) (rnd_fix 53 0 0 (lit< tt), zero_O))
 is_of (fin s (suc m) e) f t =
-    let p = fits-parts s m e t in
+    let p = fits_parts s m e t in
     let w = whole_at (suc m) e 1074 p.2 in
     let n = suc m * 2 ^ w.0 in
     let v : suc m * up e * U ≡ n * down e = ap (λ (u : ℕ). suc m * up e * u) U_is ∙ w.1 in
     let q : mag (fin s (suc m) e) ≡ n = exact (suc m) e n v in (
       (refl, v ∙ ap (λ (x : ℕ). x * down e) (sym q)),
       subst Held (sym q)
-          (rnd-fix 53 (suc m) w.0 p.1, under_O (suc m * up e) n (down e) v p.3),
+          (rnd_fix 53 (suc m) w.0 p.1, under_O (suc m * up e) n (down e) v p.3),
     )
 is_of nan f t = elim f [ ]
 is_of (inf _) f t = elim f [ ]
@@ -139,8 +139,8 @@ pub units_pos : (m n : ℕ) (e : ℤ) → suc m * up e * U ≡ n * down e → 0 
 units_pos m n e h = first_pos n (down e) (subst (λ (z : ℕ). 0 < z) h (mul-pos (mul-pos (zero-lt-suc m) (up_pos e)) U_pos))
 
 -- a value above 0 has digits
-pub zero-units : (n : ℕ) (e : ℤ) → 0 < n → 0 * up e * U ≡ n * down e → ⊥
-zero-units n e p h = lt_irrefl 0 (subst (λ (z : ℕ). 0 < z) (sym h ∙ null (up e) U) (mul-pos p (down_pos e)))
+pub zero_units : (n : ℕ) (e : ℤ) → 0 < n → 0 * up e * U ≡ n * down e → ⊥
+zero_units n e p h = lt_irrefl 0 (subst (λ (z : ℕ). 0 < z) (sym h ∙ null (up e) U) (mul-pos p (down_pos e)))
   where
     null : (a b : ℕ) → 0 * a * b ≡ 0
     null a b = omega arith
@@ -193,13 +193,13 @@ pub pp_is : (s : Bool) (a : ℕ) → nn s a ≡ 0 → pp s a ≡ a
 pp_is false a h = refl
 pp_is true a h = sym h
 
-pub swap-pp : (s : Bool) (a : ℕ) → pp (not s) a ≡ nn s a
-swap-pp false a = refl
-swap-pp true a = refl
+pub swap_pp : (s : Bool) (a : ℕ) → pp (not s) a ≡ nn s a
+swap_pp false a = refl
+swap_pp true a = refl
 
-pub swap-nn : (s : Bool) (a : ℕ) → nn (not s) a ≡ pp s a
-swap-nn false a = refl
-swap-nn true a = refl
+pub swap_nn : (s : Bool) (a : ℕ) → nn (not s) a ≡ pp s a
+swap_nn false a = refl
+swap_nn true a = refl
 
 abbrev pub Below : Bool → ℕ → Bool → ℕ → Type 0
 Below s a t b = pp s a + nn t b ≤ pp t b + nn s a
@@ -282,9 +282,9 @@ below_of-le (fin u m e) nan s t a b h k l = elim k [ ]
 below_of-le (fin u m e) (inf _) s t a b h k l = elim k [ ]
 
 -- ---- `round`, by units: a fraction a / c rounds to `rnd 53 (a * U) c` units
-pub round-units : (s : Bool) (a c : ℕ) → rnd 53 (a * U) c < O → Is (round B s a c) s (rnd 53 (a * U) c)
+pub round_units : (s : Bool) (a c : ℕ) → rnd 53 (a * U) c < O → Is (round B s a c) s (rnd 53 (a * U) c)
 unfolding U O
-round-units s a c h =
+round_units s a c h =
     subst (λ (z : Float). Is z s (rnd 53 (a * U) c)) (sym (round_is B s a c)) (units_val B s (kept 53 (a * U) c) (drop 53 (a * U) c) h)
 
 units_over : (s : Bool) (q k : ℕ) → 2 ^ 2098 ≤ q * 2 ^ k → units B s q k ≡ inf s
@@ -300,7 +300,7 @@ pub rnd_U : (n : ℕ) → rnd 53 (n * U) U ≡ rnd 53 n 1
 rnd_U n = rnd_same 53 (n * U) U n 1 (lit< tt) U_pos (lit< tt) (mul-one (n * U))
 
 pub round_whole : (s : Bool) (n : ℕ) → rnd 53 n 1 < O → Is (round B s n U) s (rnd 53 n 1)
-round_whole s n h = subst (λ (z : ℕ). Is (round B s n U) s z) (rnd_U n) (round-units s n U (subst (λ (z : ℕ). z < O) (sym (rnd_U n)) h))
+round_whole s n h = subst (λ (z : ℕ). Is (round B s n U) s z) (rnd_U n) (round_units s n U (subst (λ (z : ℕ). z < O) (sym (rnd_U n)) h))
 
 -- ---- the operations, by units
 pub neg_is : (x : Float) (s : Bool) (a : ℕ) → Is x s a → Is (neg x) (not s) a
@@ -380,25 +380,25 @@ div_is (inf _) y s t a b h k p = elim h [ ]
 div_is (fin u m e) nan s t a b h k p = elim k [ ]
 div_is (fin u m e) (inf _) s t a b h k p = elim k [ ]
 
-scaled-lt : (A B' a b c w : ℕ) → A * c ≡ a * w → B' * c ≡ b * w → 0 < w → a < b → A < B'
-scaled-lt A B' a b c w p q W l =
+scaled_lt : (A B' a b c w : ℕ) → A * c ≡ a * w → B' * c ≡ b * w → 0 < w → a < b → A < B'
+scaled_lt A B' a b c w p q W l =
     lt_of_mul-lt-mul_right c (subst (λ (z : ℕ). z < B' * c) (sym p) (subst (λ (z : ℕ). a * w < z) (sym q) (mul-lt-mul_of_pos_right l W)))
 
-scaled-le : (A B' a b c w : ℕ) → A * c ≡ a * w → B' * c ≡ b * w → 0 < c → a ≤ b → A ≤ B'
-scaled-le A B' a b c w p q C l = le_of_mul-le-mul_right {k = c} (let h = mul-le-mul_right w l in omega arith) C
+scaled_le : (A B' a b c w : ℕ) → A * c ≡ a * w → B' * c ≡ b * w → 0 < c → a ≤ b → A ≤ B'
+scaled_le A B' a b c w p q C l = le_of_mul-le-mul_right {k = c} (let h = mul-le-mul_right w l in omega arith) C
 
 same_ltb : (A B' a b c w : ℕ) → A * c ≡ a * w → B' * c ≡ b * w → 0 < c → 0 < w → ltb A B' ≡ ltb a b
 same_ltb A B' a b c w p q C W = go (ltb a b) (ltb→lt a b) (nltb→le a b)
   where
     go : (z : Bool) → (T z → a < b) → (T (not z) → b ≤ a) → ltb A B' ≡ z
-    go true f g = is_true (ltb A B') (lt→ltb A B' (scaled-lt A B' a b c w p q W (f tt)))
-    go false f g = is_false (ltb A B') (le→nltb A B' (scaled-le B' A b a c w q p C (g tt)))
+    go true f g = is_true (ltb A B') (lt→ltb A B' (scaled_lt A B' a b c w p q W (f tt)))
+    go false f g = is_false (ltb A B') (le→nltb A B' (scaled_le B' A b a c w q p C (g tt)))
 
-scaled-add : (A B' a b c w : ℕ) → A * c ≡ a * w → B' * c ≡ b * w → (A + B') * c ≡ (a + b) * w
-scaled-add A B' a b c w p q = omega arith
+scaled_add : (A B' a b c w : ℕ) → A * c ≡ a * w → B' * c ≡ b * w → (A + B') * c ≡ (a + b) * w
+scaled_add A B' a b c w p q = omega arith
 
-scaled-sub : (A B' a b c w : ℕ) → A * c ≡ a * w → B' * c ≡ b * w → (A - B') * c ≡ (a - b) * w
-scaled-sub A B' a b c w p q =
+scaled_sub : (A B' a b c w : ℕ) → A * c ≡ a * w → B' * c ≡ b * w → (A - B') * c ≡ (a - b) * w
+scaled_sub A B' a b c w p q =
     mul_comm (A - B') c
     ∙ mul-sub c A B'
     ∙ inner (c * A) (c * B') (w * a) (w * b) (mul_comm c A ∙ p ∙ mul_comm a w) (mul_comm c B' ∙ q ∙ mul_comm b w)
@@ -412,11 +412,11 @@ sum_same : (s t : Bool) (A B' c a b : ℕ) → A * U ≡ a * c → B' * U ≡ b 
 unfolding sum
 sum_same s t A B' c a b p q C =
     ap (λ (z : Float). cond (beq s t) z (cond (ltb A B') (round B t (B' - A) c) (round B (s && ltb B' A) (A - B') c)))
-    (round_same B s (A + B') c (a + b) U C U_pos (scaled-add A B' a b U c p q))
+    (round_same B s (A + B') c (a + b) U C U_pos (scaled_add A B' a b U c p q))
     ∙ ap (λ (z : Float). cond (beq s t) (round B s (a + b) U) (cond (ltb A B') z (round B (s && ltb B' A) (A - B') c)))
-    (round_same B t (B' - A) c (b - a) U C U_pos (scaled-sub B' A b a U c q p))
+    (round_same B t (B' - A) c (b - a) U C U_pos (scaled_sub B' A b a U c q p))
     ∙ ap (λ (z : Float). cond (beq s t) (round B s (a + b) U) (cond (ltb A B') (round B t (b - a) U) z))
-    (round_same B (s && ltb B' A) (A - B') c (a - b) U C U_pos (scaled-sub A B' a b U c p q))
+    (round_same B (s && ltb B' A) (A - B') c (a - b) U C U_pos (scaled_sub A B' a b U c p q))
     ∙ ap (λ (z : Bool). cond (beq s t) (round B s (a + b) U) (cond z (round B t (b - a) U) (round B (s && ltb B' A) (a - b) U)))
     (same_ltb A B' a b U c p q U_pos C)
     ∙ ap (λ (z : Bool). cond (beq s t) (round B s (a + b) U) (cond (ltb a b) (round B t (b - a) U) (round B (s && z) (a - b) U)))

@@ -1,4 +1,4 @@
--- The methods of `f64` that read a bit pattern: `x != x` is the test for NaN (`nan-test`); of a value that is none the sign is the pattern's highest bit (`sign-test`), the rest of the pattern is that of the absolute value (`abs-bits`), and the sign bit with the pattern of 1.0 is `signum` (`signum-bits`).
+-- The methods of `f64` that read a bit pattern: `x != x` is the test for NaN (`nan_test`); of a value that is none the sign is the pattern's highest bit (`sign_test`), the rest of the pattern is that of the absolute value (`abs-bits`), and the sign bit with the pattern of 1.0 is `signum` (`signum-bits`).
 -- A value that fits its format is given back by its pattern, so each fact is one about the value of a pattern, by its three fields.
 use mathlib.Core.Path.{◌≡◌, refl, sym, ap, ◌∙◌, subst}
 use Prim.Native.Nat.{ℕ, zero, suc, ◌+◌, ◌*◌, ◌/◌, ◌%◌, ◌≤◌}
@@ -13,16 +13,16 @@ use lib.Ieee.Bits.{is_true, of_bits-to_bits, to_bits-lt, nan_bits_is}
 use Rattle.floats.specs.Float.{abs, sign_bit, signum, is_infinite, is_finite}
 
 -- ---- NaN
-pub nan-test : (x : Float) → ne x x ≡ is_nan x
+pub nan_test : (x : Float) → ne x x ≡ is_nan x
 unfolding ne is_nan
-nan-test nan = refl
-nan-test (inf false) = refl
-nan-test (inf true) = refl
-nan-test (fin false m e) = rw (is_true (eqb (m * up e * down e) (m * up e * down e)) (eqb_refl (m * up e * down e)))
-nan-test (fin true m e) = rw (is_true (eqb (m * up e * down e) (m * up e * down e)) (eqb_refl (m * up e * down e)))
+nan_test nan = refl
+nan_test (inf false) = refl
+nan_test (inf true) = refl
+nan_test (fin false m e) = rw (is_true (eqb (m * up e * down e) (m * up e * down e)) (eqb_refl (m * up e * down e)))
+nan_test (fin true m e) = rw (is_true (eqb (m * up e * down e) (m * up e * down e)) (eqb_refl (m * up e * down e)))
 
 pub not_nan : (x : Float) → ne x x ≡ false → T (not (is_nan x))
-not_nan x e = rw (← nan-test x, e) tt
+not_nan x e = rw (← nan_test x, e) tt
 
 pub is_nan_lem : (x : Float) → ne x x ≡ true → x ≡ nan
 is_nan_lem x e = differs_from_itself x (passes (ne x x) e)
@@ -90,9 +90,9 @@ signed_one nan n = elim n [ ]
 
 -- ---- the same of a value, by its pattern
 module _ (x : Float) (f : T (fits binary64 x)) where
-  pub sign-test : T (not (is_nan x)) → leb 9223372036854775808 (to_bits binary64 x) ≡ sign_bit x
+  pub sign_test : T (not (is_nan x)) → leb 9223372036854775808 (to_bits binary64 x) ≡ sign_bit x
   unfolding of_bits
-  sign-test n =
+  sign_test n =
       let b = to_bits binary64 x in
       sym (fields_sign (leb 9223372036854775808 b) (b % 9223372036854775808 / 4503599627370496) (b % 4503599627370496)
       (subst (λ (y : Float). T (not (is_nan y))) (sym (of_bits-to_bits binary64 x f)) n))
@@ -107,32 +107,32 @@ module _ (x : Float) (f : T (fits binary64 x)) where
       let q : b % 9223372036854775808 % 4503599627370496 ≡ b % 4503599627370496 = omega arith in
       rw (s, p, q) (sym (fields_abs (leb 9223372036854775808 b) (b % 9223372036854775808 / 4503599627370496) (b % 4503599627370496)) ∙ ap abs (of_bits-to_bits binary64 x f))
 
-  pub abs-not-nan : T (not (is_nan x)) → T (not (nan_bits binary64 (to_bits binary64 x % 9223372036854775808)))
-  abs-not-nan n = rw (nan_bits_is binary64 (to_bits binary64 x % 9223372036854775808), abs-bits) (abs_keeps x n)
+  pub abs_not_nan : T (not (is_nan x)) → T (not (nan_bits binary64 (to_bits binary64 x % 9223372036854775808)))
+  abs_not_nan n = rw (nan_bits_is binary64 (to_bits binary64 x % 9223372036854775808), abs-bits) (abs_keeps x n)
 
   -- the pattern is a sign bit and 63 bits more
   pub sign-digit : to_bits binary64 x / 9223372036854775808 ≤ 1
   sign-digit = omega (arith, to_bits-lt binary64 x f)
 
   pub signum-bits : T (not (is_nan x)) → of_bits binary64 (to_bits binary64 x / 9223372036854775808 * 9223372036854775808 + 4607182418800017408) ≡ signum x
-  signum-bits n = ap (λ (q : ℕ). of_bits binary64 (q * 9223372036854775808 + 4607182418800017408)) (digit (sign_bit x) (sign-test n)) ∙ signed_one x n
+  signum-bits n = ap (λ (q : ℕ). of_bits binary64 (q * 9223372036854775808 + 4607182418800017408)) (digit (sign_bit x) (sign_test n)) ∙ signed_one x n
     where
       digit : (s : Bool) → leb 9223372036854775808 (to_bits binary64 x) ≡ s → to_bits binary64 x / 9223372036854775808 ≡ cond s 1 0
       digit true e = omega (arith, leb-true 9223372036854775808 (to_bits binary64 x) e, sign-digit)
       digit false e = omega (arith, leb-false 9223372036854775808 (to_bits binary64 x) e)
 
-  pub signum-not-nan : T (not (is_nan x)) → T (not (nan_bits binary64 (to_bits binary64 x / 9223372036854775808 * 9223372036854775808 + 4607182418800017408)))
-  signum-not-nan n = rw (nan_bits_is binary64 (to_bits binary64 x / 9223372036854775808 * 9223372036854775808 + 4607182418800017408), signum-bits n) (signum_keeps x n)
+  pub signum_not_nan : T (not (is_nan x)) → T (not (nan_bits binary64 (to_bits binary64 x / 9223372036854775808 * 9223372036854775808 + 4607182418800017408)))
+  signum_not_nan n = rw (nan_bits_is binary64 (to_bits binary64 x / 9223372036854775808 * 9223372036854775808 + 4607182418800017408), signum-bits n) (signum_keeps x n)
 
 -- ---- the infinities
-pub infinite-test : (x : Float) → eq (abs x) (inf false) ≡ is_infinite x
+pub infinite_test : (x : Float) → eq (abs x) (inf false) ≡ is_infinite x
 unfolding abs eq is_infinite
-infinite-test nan = refl
-infinite-test (inf s) = refl
-infinite-test (fin s m e) = refl
+infinite_test nan = refl
+infinite_test (inf s) = refl
+infinite_test (fin s m e) = refl
 
-pub finite-test : (x : Float) → lt (abs x) (inf false) ≡ is_finite x
+pub finite_test : (x : Float) → lt (abs x) (inf false) ≡ is_finite x
 unfolding abs lt is_finite
-finite-test nan = refl
-finite-test (inf s) = refl
-finite-test (fin s m e) = refl
+finite_test nan = refl
+finite_test (inf s) = refl
+finite_test (fin s m e) = refl

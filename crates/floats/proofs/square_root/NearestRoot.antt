@@ -19,8 +19,8 @@ use Rattle.floats.specs.Float.{f0, is_finite}
 use Rattle.floats.specs.SquareRoot.{isqrt, root_of_units, square_root, sqrt, Size, Nearer, NearestRoot, SquareRoot}
 use Rattle.floats.proofs.Rounding.{rnd, below_or_from, pow_part, size_above}
 use Rattle.floats.proofs.Rounding.Units.{U, O, U_is, O_is, Is, mag, Held, is_of, units_pos}
-use Rattle.floats.proofs.square_root.WholeRoot.{Root, isqrt-root, even-root, root_of_value, digits_of-root}
-use Rattle.floats.proofs.square_root.RootBits.{root_of-fits, root_by-units, size_of, below_zero}
+use Rattle.floats.proofs.square_root.WholeRoot.{Root, isqrt-root, even_root, root_of_value, digits_of-root}
+use Rattle.floats.proofs.square_root.RootBits.{root_of-fits, root_by_units, size_of, below_zero}
 use Rattle.floats.proofs.Rounding.NonNegative.{lt_of_pos}
 
 -- ---- numbers of 53 digits: from 2 ^ 52 steps of 2 ^ j on they are multiples of the step
@@ -168,8 +168,8 @@ leading n held p = record {
 abbrev root_units : {n : ℕ} → Leading n → ℕ
 root_units v = (v.Q + 1) / 2 * 2 ^ (v.b + 1)
 
-nearest-units : (n c : ℕ) (v : Leading n) → rnd 53 c 1 ≡ c → Nearer (n * U) (root_units v) c
-nearest-units n c v h = (up-side, λ (l : c < root_units v). down-side l (parity v.Q))
+nearest_units : (n c : ℕ) (v : Leading n) → rnd 53 c 1 ≡ c → Nearer (n * U) (root_units v) c
+nearest_units n c v h = (up-side, λ (l : c < root_units v). down-side l (parity v.Q))
   where
     q : ℕ
     q = (v.Q + 1) / 2
@@ -198,7 +198,7 @@ nearest-units n c v h = (up-side, λ (l : c < root_units v). down-side l (parity
     -- the square of an odd number is odd, and W is even
     inexact : v.Q + 1 ≡ 2 * q → v.Q * v.Q < v.W
     inexact o =
-        elim (eq-or-lt_of_le v.root.0) [ inl e ↦ absurd (let z = even-root v.Q v.W e v.even in omega arith) | inr l ↦ l ]
+        elim (eq-or-lt_of_le v.root.0) [ inl e ↦ absurd (let z = even_root v.Q v.W e v.even in omega arith) | inr l ↦ l ]
 
     down-side : c < q * g → (v.Q ≡ 2 * q) ⊎ (v.Q + 1 ≡ 2 * q) → (q * g + c) * (q * g + c) < 4 * (n * U)
     down-side l (inl e) =
@@ -264,7 +264,7 @@ root-near x n i held p = record {
     against (fin s m e) f t =
         let y = fin s m e in
         let k = is_of y tt t in
-        (mag y, size_of y s (mag y) k.0, nearest-units n (mag y) v k.1.0)
+        (mag y, size_of y s (mag y) k.0, nearest_units n (mag y) v k.1.0)
     against lib.Ieee.nan f t = elim f [ ]
     against (lib.Ieee.inf _) f t = elim f [ ]
 
@@ -277,7 +277,7 @@ above_zero (fin false zero e) f t l = absurd (none (up e) (down e) (ltb→lt (0 
 above_zero (fin false (suc m) e) f t l =
     let x = fin false (suc m) e in
     let i = is_of x tt t in
-    subst (λ (z : Float). NearestRoot x z) (sym (root_by-units m e)) (root-near x (mag x) i.0 i.1 (units_pos m (mag x) e i.0.1))
+    subst (λ (z : Float). NearestRoot x z) (sym (root_by_units m e)) (root-near x (mag x) i.0 i.1 (units_pos m (mag x) e i.0.1))
 above_zero lib.Ieee.nan f t l = elim f [ ]
 above_zero (lib.Ieee.inf _) f t l = elim f [ ]
 above_zero (fin mathlib.Core.Bool.true _ e) f t l = elim l [ ]

@@ -1,7 +1,7 @@
 -- The bit pattern of a root, and the roots of the values that have no digits to compute.
 -- Proved: a value by its bit pattern (`bits_at`), and which patterns are no NaN's (`clean`);
 -- the digits of the root of m * 4 ^ h are the whole number nearest to the root of m * 2 ^ 52 (`root_at`, `nearest-pattern`);
--- the root of a value by its units (`root_by-units`), and a value's size (`size_of`);
+-- the root of a value by its units (`root_by_units`), and a value's size (`size_of`);
 -- and the values that have no digits to compute (`nan_case`, `negative_case`, `zero_case`, `inf_case`).
 use mathlib.Core.Path.{◌≡◌, refl, sym, ap, ◌∙◌, subst}
 use mathlib.Core.Logic.{inl, inr}
@@ -154,9 +154,9 @@ nearest-pattern q m h near l u lo hi n nO e =
     back q k = omega arith
 
 -- ---- a value by its units
-pub root_by-units : (m : ℕ) (e : ℤ) → square_root B (fin false (suc m) e) ≡ root_of_units B (mag (fin false (suc m) e))
+pub root_by_units : (m : ℕ) (e : ℤ) → square_root B (fin false (suc m) e) ≡ root_of_units B (mag (fin false (suc m) e))
 unfolding square_root U
-root_by-units m e = refl
+root_by_units m e = refl
 
 pub size_of : (x : Float) (s : Bool) (n : ℕ) → Is x s n → Size x n
 unfolding U

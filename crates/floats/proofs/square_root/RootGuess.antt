@@ -1,6 +1,6 @@
 -- The root by a guess that is checked: nothing is assumed of the guess, and the exact test that follows is proved.
 -- Proved: the test by the two parts of q places m * 2 ^ 52 between the squares of q - 1/2 and
--- q + 1/2, so a q that `is_nearest` accepts is the whole number nearest to the root (`nearest_by-parts`); what `is_normal` and `guess` need (`above_zero`, `positive_number`).
+-- q + 1/2, so a q that `is_nearest` accepts is the whole number nearest to the root (`nearest_by_parts`); what `is_normal` and `guess` need (`above_zero`, `positive_number`).
 use mathlib.Core.Path.{◌≡◌, sym, ap, ◌∙◌, subst}
 use Prim.Native.Nat.{ℕ, zero, suc, ◌+◌, ◌-◌, ◌*◌, ◌/◌, ◌%◌, ◌^◌, ◌≤◌, ◌<◌}
 use native.Mathlib.Nat.{lt_irrefl, mul-le-mul, zero-lt-suc}
@@ -41,9 +41,9 @@ apart m q a b j k h e f = let s : q * q ≡ a * a * 2 ^ 54 + a * b * 2 ^ 28 + b 
     square : (a b : ℕ) → (a * 2 ^ 27 + b) * (a * 2 ^ 27 + b) ≡ a * a * 2 ^ 54 + a * b * 2 ^ 28 + b * b
     square a b = omega arith
 
-pub nearest_by-parts : (m q j k : ℕ) → m + 8 ≡ j + 4 * (q / 2 ^ 27 * (q / 2 ^ 27)) → j * 2 ^ 24 ≡ k + q / 2 ^ 27 * (q % 2 ^ 27)
+pub nearest_by_parts : (m q j k : ℕ) → m + 8 ≡ j + 4 * (q / 2 ^ 27 * (q / 2 ^ 27)) → j * 2 ^ 24 ≡ k + q / 2 ^ 27 * (q % 2 ^ 27)
     → (w t : ℕ) → w ≡ k * 2 ^ 28 + q → t ≡ q % 2 ^ 27 * (q % 2 ^ 27) + 2 ^ 55 → t < w → w - t ≤ 2 * q → Nearest q (m * 2 ^ 52)
-nearest_by-parts m q j k e f w t we te l u =
+nearest_by_parts m q j k e f w t we te l u =
     between (m * 2 ^ 52) (q * q) (k * 2 ^ 28) q w t we
     (subst (λ (y : ℕ). m * 2 ^ 52 + y ≡ q * q + k * 2 ^ 28) (sym te) (apart m q (q / 2 ^ 27) (q % 2 ^ 27) j k (omega arith) e f)) l u
   where

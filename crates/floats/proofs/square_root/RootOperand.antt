@@ -1,7 +1,7 @@
 -- The operand of a value above 0, m * 4 ^ h, is the value's units times 2 ^ 1074.
 -- Proved: how many digits a subnormal lacks (`lacking_of`); d * 2 ^ e as m * 4 ^ h, by the parity of e (`placed_at`);
 -- the units of a value from its bit pattern (`opened`), so that what `scale` returns is its operand
--- (`subnormal_scaled`, `normal-scaled`); and the operand's root is the value's (`root-scaled`).
+-- (`subnormal_scaled`, `normal_scaled`); and the operand's root is the value's (`root_scaled`).
 use mathlib.Core.Path.{◌≡◌, refl, sym, ap, ◌∙◌, subst}
 use mathlib.Core.Logic.{◌⊎◌, inl, inr}
 use Prim.Native.Nat.{ℕ, zero, suc, ◌+◌, ◌-◌, ◌*◌, ◌/◌, ◌%◌, ◌^◌, ◌≤◌, ◌<◌}
@@ -21,7 +21,7 @@ use Rattle.floats.specs.RootSteps.{Operand, Placed, Scaled, RootOf}
 use Rattle.floats.proofs.Rounding.{below_or_from}
 use Rattle.floats.proofs.Rounding.Units.{U, O_is, Is, mag, is_of, is_same, Held, pattern, bits_of, units_pos}
 use Rattle.floats.proofs.square_root.RootDigits.{four_two}
-use Rattle.floats.proofs.square_root.RootBits.{RootFrom, root_by-units, size_of}
+use Rattle.floats.proofs.square_root.RootBits.{RootFrom, root_by_units, size_of}
 
 abbrev B : Format
 B = binary64
@@ -118,7 +118,7 @@ opened (fin false (suc m) e) p f =
     let i = is_of x tt f in (
       subst (λ (b : ℕ). Unpacked b (mag x)) (sym (bits_of x false (mag x) i.0))
           (unpack (mag x) i.1 (units_pos m (mag x) e i.0.1)),
-      root_by-units m e,
+      root_by_units m e,
       tt,
     )
 opened lib.Ieee.nan p f = elim p [ ]
@@ -150,9 +150,9 @@ subnormal_scaled x z a p f q few w =
     ∙ sym (mul_assoc t (2 ^ z) (2 ^ (1074 - z)))) w
 
 -- a normal value's
-pub normal-scaled : (x : Float) (a : Operand) → T (positive x) → T (fits B x) → (to_bits B x / 2 ^ 52 ≡ 0 → ⊥)
+pub normal_scaled : (x : Float) (a : Operand) → T (positive x) → T (fits B x) → (to_bits B x / 2 ^ 52 ≡ 0 → ⊥)
     → Placed (to_bits B x % 2 ^ 52 + 2 ^ 52) (to_bits B x / 2 ^ 52 + 1073) a → Scaled x a
-normal-scaled x a p f q w =
+normal_scaled x a p f q w =
     let b = to_bits B x in
     let d = b % 2 ^ 52 + 2 ^ 52 in
     let k = b / 2 ^ 52 - 1 in
@@ -173,8 +173,8 @@ is_size lib.Ieee.nan n p h = elim p [ ]
 is_size (lib.Ieee.inf _) n p h = elim p [ ]
 is_size (fin mathlib.Core.Bool.true m e) n p h = elim p [ ]
 
-pub root-scaled : (a : Operand) (r : Float) → RootFrom a.m a.h r → RootOf a r
-root-scaled a r g x s =
+pub root_scaled : (a : Operand) (r : Float) → RootFrom a.m a.h r → RootOf a r
+root_scaled a r g x s =
     let same : s.n ≡ mag x =
     (is_same x false false s.n (mag x) (is_size x s.n s.above s.size) (units_of x s.above s.holds)).1 in
     let o = opened x s.above s.holds in

@@ -12,10 +12,10 @@ use lib.Ieee.Bits.{is_true, is_false}
 use lib.Ieee.Fits.{and_l, up_pos}
 use Rattle.floats.specs.Float.{f0, max}
 use Rattle.floats.specs.SquareRoot.{sqrt, square_root, root_of_units}
-use Rattle.floats.proofs.Rounding.Units.{Is, mag, is_of, is_same, zero-units, O}
-use Rattle.floats.proofs.square_root.RootBits.{root_of-fits, root_by-units}
+use Rattle.floats.proofs.Rounding.Units.{Is, mag, is_of, is_same, zero_units, O}
+use Rattle.floats.proofs.square_root.RootBits.{root_of-fits, root_by_units}
 use Rattle.floats.proofs.Rounding.Error.{Fin, sized}
-use Rattle.floats.proofs.square_root.WholeRoot.{RootErr, root_of-err}
+use Rattle.floats.proofs.square_root.WholeRoot.{RootErr, root_of_err}
 
 abbrev B : Format
 B = binary64
@@ -70,15 +70,15 @@ below (fin true (suc m) e) a b = rw (is_true (ltb 0 (suc m * up e * 1 + 0 * 1 * 
     over a d h = omega arith
 
 -- ---- the root of a value of n units, n above 0
-root-val : (y : Float) (n : ℕ) → T (fits B y) → Is y false n → 0 < n → (sqrt y ≡ root_of_units B n) × (max y f0 ≡ y)
-root-val (fin true m e) n f i p = absurd (true≢false i.0)
-root-val (fin false zero e) n f i p = absurd (zero-units n e p i.1)
-root-val (fin false (suc m) e) n f i p =
+root_val : (y : Float) (n : ℕ) → T (fits B y) → Is y false n → 0 < n → (sqrt y ≡ root_of_units B n) × (max y f0 ≡ y)
+root_val (fin true m e) n f i p = absurd (true≢false i.0)
+root_val (fin false zero e) n f i p = absurd (zero_units n e p i.1)
+root_val (fin false (suc m) e) n f i p =
     let y = fin false (suc m) e in
     let same = (is_same y false false (mag y) n (is_of y tt f).0 i).1 in
-    (root_by-units m e ∙ ap (λ (z : ℕ). root_of_units B z) same, max_pos (suc m) e)
-root-val nan n f i p = elim i [ ]
-root-val (inf _) n f i p = elim i [ ]
+    (root_by_units m e ∙ ap (λ (z : ℕ). root_of_units B z) same, max_pos (suc m) e)
+root_val nan n f i p = elim i [ ]
+root_val (inf _) n f i p = elim i [ ]
 
 pub record Rooted (y : Float) (n : ℕ) : Type 0 where
   pub kept : max y f0 ≡ y
@@ -88,8 +88,8 @@ pub record Rooted (y : Float) (n : ℕ) : Type 0 where
 
 pub rooted : (y : Float) (n : ℕ) → T (fits B y) → Is y false n → 0 < n → n < O → Rooted y n
 rooted y n f i p o =
-    let q = root-val y n f i p in
-    let r = root_of-err n p o in
+    let q = root_val y n f i p in
+    let r = root_of_err n p o in
     let is = subst (λ (z : Float). Is z false r.0) (sym q.0) r.1 in
     let s = sized (sqrt y) false r.0 (subst (λ (z : Float). T (fits B z)) (sym q.0) (root_of-fits n)) is in
     record { kept = q.1; fin = s.0; is = rw s.1 is; err = rw s.1 r.2 }

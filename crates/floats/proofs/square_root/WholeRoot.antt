@@ -1,6 +1,6 @@
 -- The square root that specs/SquareRoot.antt defines, by units.
--- Proved: `isqrt` is the whole root (`isqrt-root`), which is determined (`root-unique`); from the 54 leading digits Q of √(n * U)
--- the rounded root is half of Q, rounded up (`root_of_value`); and it is within 2 ^ -53 of √(n * U), relatively (`root_of-err`).
+-- Proved: `isqrt` is the whole root (`isqrt-root`), which is determined (`root_unique`); from the 54 leading digits Q of √(n * U)
+-- the rounded root is half of Q, rounded up (`root_of_value`); and it is within 2 ^ -53 of √(n * U), relatively (`root_of_err`).
 -- All that can stand below the 54 digits lies strictly between two midpoints, so it rounds the same way,
 -- but for nothing at all: that is all that `sticky` has to tell.
 use mathlib.Core.Path.{◌≡◌, refl, sym, ap, ◌∙◌, subst}
@@ -20,8 +20,8 @@ use lib.Ieee.Order.{drop}
 use lib.Ieee.Scale.{grid_scale, normal_of_fraction}
 use lib.Arith.{digits_lt}
 use Rattle.floats.specs.SquareRoot.{isqrt, sticky, root_of_units}
-use Rattle.floats.proofs.Rounding.{rnd, rnd_whole, Near, rnd-fix, rnd_same, closest_err, below_or_from, size_above}
-use Rattle.floats.proofs.Rounding.Units.{U, O, O_is, U_is, U_pos, Is, round-units}
+use Rattle.floats.proofs.Rounding.{rnd, rnd_whole, Near, rnd_fix, rnd_same, closest_err, below_or_from, size_above}
+use Rattle.floats.proofs.Rounding.Units.{U, O, O_is, U_is, U_pos, Is, round_units}
 
 -- ---- the whole root
 -- s is the whole root of n
@@ -51,8 +51,8 @@ pub sq-lt : (x y : ℕ) → x * x < y * y → x < y
 sq-lt x y l = elim (below_or_from x y) [ inl g ↦ g | inr g ↦ absurd (not-le_of_lt l (mul-le-mul g g)) ]
 
 -- the whole root is determined
-pub root-unique : (s t n : ℕ) → Root s n → Root t n → s ≡ t
-root-unique s t n h k =
+pub root_unique : (s t n : ℕ) → Root s n → Root t n → s ≡ t
+root_unique s t n h k =
     let a = sq-lt s (t + 1) (lt_of_le_of_lt h.0 k.1) in
     let b = sq-lt t (s + 1) (lt_of_le_of_lt k.0 h.1) in
     omega arith
@@ -64,8 +64,8 @@ digits_of-root Q W r l u =
     (omega arith, sq-lt Q (2 ^ 54) (lt_of_le_of_lt r.0 u))
 
 -- ---- the root from its 54 leading digits: n * U is W * 4 ^ b, and Q is the whole root of W
-scaled-root : (Q W R b w : ℕ) → Root Q W → Root R w → w ≡ W * (2 ^ b * 2 ^ b) → (Q * 2 ^ b ≤ R) × (R < (Q + 1) * 2 ^ b)
-scaled-root Q W R b w h k e = (lo, hi)
+scaled_root : (Q W R b w : ℕ) → Root Q W → Root R w → w ≡ W * (2 ^ b * 2 ^ b) → (Q * 2 ^ b ≤ R) × (R < (Q + 1) * 2 ^ b)
+scaled_root Q W R b w h k e = (lo, hi)
   where
     lo : Q * 2 ^ b ≤ R
     lo =
@@ -100,9 +100,9 @@ half_up x Q v δ d l h =
     let b : Q < 2 * x + 1 = lt_of_mul-lt-mul_right v (omega arith) in
     omega arith
 
-inexact-join : (Q b δ : ℕ) → 2 ^ 53 ≤ Q → Q < 2 ^ 54 → 0 < δ → δ < 2 ^ (b + 1)
+inexact_join : (Q b δ : ℕ) → 2 ^ 53 ≤ Q → Q < 2 ^ 54 → 0 < δ → δ < 2 ^ (b + 1)
     → rnd 53 (Q * 2 ^ (b + 1) + δ) 1 ≡ (Q + 1) / 2 * 2 ^ (1 + (b + 1))
-inexact-join Q b δ l u d h =
+inexact_join Q b δ l u d h =
     let v = 2 ^ (b + 1) in
     let n = Q * v + δ in
     let lo : 2 ^ (53 + (b + 1)) ≤ n = let p = pow-add 2 53 (b + 1) in let m = mul-le-mul_right v l in omega arith in
@@ -117,9 +117,9 @@ inexact-join Q b δ l u d h =
     ∙ ap (λ (x : ℕ). x * 2 ^ (1 + (b + 1)))
     (ap (closest n) c ∙ half_up (closest n (2 * v)) Q v δ d h (closest_err n (2 * v) (mul-pos {m = 2} (lit< tt) (pow_pos (b + 1)))))
 
-exact-join : (Q b : ℕ) → Q < 2 ^ 54 → Q % 2 ≡ 0 → rnd 53 (Q * 2 ^ (b + 1)) 1 ≡ (Q + 1) / 2 * 2 ^ (1 + (b + 1))
-exact-join Q b u e =
-    subst (λ (z : ℕ). rnd 53 z 1 ≡ (Q + 1) / 2 * 2 ^ (1 + (b + 1))) (sym same) (rnd-fix 53 ((Q + 1) / 2) (1 + (b + 1)) under)
+exact_join : (Q b : ℕ) → Q < 2 ^ 54 → Q % 2 ≡ 0 → rnd 53 (Q * 2 ^ (b + 1)) 1 ≡ (Q + 1) / 2 * 2 ^ (1 + (b + 1))
+exact_join Q b u e =
+    subst (λ (z : ℕ). rnd 53 z 1 ≡ (Q + 1) / 2 * 2 ^ (1 + (b + 1))) (sym same) (rnd_fix 53 ((Q + 1) / 2) (1 + (b + 1)) under)
   where
     halves : Q ≡ (Q + 1) / 2 * 2
     halves = omega arith
@@ -134,20 +134,20 @@ exact-join Q b u e =
     under = omega arith
 
 -- the root of an even square is even
-pub even-root : (Q W : ℕ) → Q * Q ≡ W → W % 2 ≡ 0 → Q % 2 ≡ 0
-even-root Q W e h = go (Q % 2) refl
+pub even_root : (Q W : ℕ) → Q * Q ≡ W → W % 2 ≡ 0 → Q % 2 ≡ 0
+even_root Q W e h = go (Q % 2) refl
   where
     go : (r : ℕ) → Q % 2 ≡ r → r ≡ 0
     go zero q = refl
     go (suc r) q = let d : Q ≡ Q / 2 * 2 + 1 = omega arith in absurd (omega (arith, sym e ∙ ap (λ (z : ℕ). z * z) d))
 
 -- 2 * R + sticky is Q * 2 ^ (b + 1) and something below 2 ^ (b + 1) that is not 0, unless Q is the root of W exactly; then Q is even
-pub root-join : (Q W R b w : ℕ) → Root Q W → Root R w → w ≡ W * (2 ^ b * 2 ^ b) → W % 2 ≡ 0 → 2 ^ 53 ≤ Q → Q < 2 ^ 54
+pub root_join : (Q W R b w : ℕ) → Root Q W → Root R w → w ≡ W * (2 ^ b * 2 ^ b) → W % 2 ≡ 0 → 2 ^ 53 ≤ Q → Q < 2 ^ 54
     → rnd 53 (2 * R + sticky R w) 1 ≡ (Q + 1) / 2 * 2 ^ (1 + (b + 1))
-root-join Q W R b w h k e ev l u = go (eq-or-lt_of_le h.0) (sticky_is R w)
+root_join Q W R b w h k e ev l u = go (eq-or-lt_of_le h.0) (sticky_is R w)
   where
     c : (Q * 2 ^ b ≤ R) × (R < (Q + 1) * 2 ^ b)
-    c = scaled-root Q W R b w h k e
+    c = scaled_root Q W R b w h k e
 
     sq : Q * 2 ^ b * (Q * 2 ^ b) ≡ Q * Q * (2 ^ b * 2 ^ b)
     sq = mul-mul-mul_comm Q (2 ^ b) Q (2 ^ b)
@@ -171,7 +171,7 @@ root-join Q W R b w h k e ev l u = go (eq-or-lt_of_le h.0) (sticky_is R w)
         let m = rest-is Q (2 ^ b) R s (2 ^ (b + 1)) (Q * 2 ^ (b + 1)) double twice c.0 c.1 g i in
         ap (λ (z : ℕ). rnd 53 (2 * R + z) 1) f
         ∙ ap (λ (z : ℕ). rnd 53 z 1) (sym m.2)
-        ∙ inexact-join Q b (2 * R + s - Q * 2 ^ (b + 1)) l u m.0 m.1
+        ∙ inexact_join Q b (2 * R + s - Q * 2 ^ (b + 1)) l u m.0 m.1
 
     past-by-sticky : (z q r : ℕ) → z ≡ 2 * q → q ≤ r → 0 < 2 * r + 1 - z
     past-by-sticky z q r a b = omega arith
@@ -183,11 +183,11 @@ root-join Q W R b w h k e ev l u = go (eq-or-lt_of_le h.0) (sticky_is R w)
         → rnd 53 (2 * R + sticky R w) 1 ≡ (Q + 1) / 2 * 2 ^ (1 + (b + 1))
     go (inl q) s =
         let x : Q * 2 ^ b * (Q * 2 ^ b) ≡ w = sq ∙ ap (λ (z : ℕ). z * (2 ^ b * 2 ^ b)) q ∙ sym e in
-        let r : R ≡ Q * 2 ^ b = root-unique R (Q * 2 ^ b) w k (le_of_eq x, above (Q * 2 ^ b) w x) in
+        let r : R ≡ Q * 2 ^ b = root_unique R (Q * 2 ^ b) w k (le_of_eq x, above (Q * 2 ^ b) w x) in
         let t : sticky R w ≡ 0 = none s (ap (λ (z : ℕ). z * z) r ∙ x) in
         ap (λ (z : ℕ). rnd 53 (2 * R + z) 1) t
         ∙ ap (λ (z : ℕ). rnd 53 z 1) (add-zero (2 * R) ∙ ap (λ (z : ℕ). 2 * z) r ∙ sym double)
-        ∙ exact-join Q b u (even-root Q W q ev)
+        ∙ exact_join Q b u (even_root Q W q ev)
       where
         above : (y w : ℕ) → y * y ≡ w → w < (y + 1) * (y + 1)
         above y w x = omega arith
@@ -239,8 +239,8 @@ root_of_value n Q W b nO e h ev l u o =
     let k = isqrt_of n nO in
     let e' : w ≡ W * (2 ^ b * 2 ^ b) = ap (λ (z : ℕ). n * z) (sym U_is) ∙ e in
     let m = 2 * R + sticky R w in
-    let j = root-join Q W R b w h k e' ev l u in
-    let c = scaled-root Q W R b w h k e' in
+    let j = root_join Q W R b w h k e' ev l u in
+    let c = scaled_root Q W R b w h k e' in
     let big : 2 ^ 53 * 2 ≤ m =
     le_trans (mul-le-mul_right 2 (le_trans l (le_trans (le-mul_of_pos_right Q (pow_pos b)) c.0)))
     (le_trans (le_of_eq (mul_comm R 2)) (le-add_right (2 * R) (sticky R w))) in
@@ -249,7 +249,7 @@ root_of_value n Q W b nO e h ev l u o =
     ((Q + 1) / 2 * 2 ^ (b + 1)) (halved m big ∙ j ∙ ap (λ (z : ℕ). (Q + 1) / 2 * z) (pow-add 2 1 (b + 1)) ∙ regroup ((Q + 1) / 2)
     (2 ^ (b + 1))) in
     subst (λ (z : Float). Is z false ((Q + 1) / 2 * 2 ^ (b + 1))) (sym (root_of_is n))
-    (subst (λ (z : ℕ). Is (round binary64 false m (2 * U)) false z) g (round-units false m (2 * U) (subst (λ (z : ℕ). z < O) (sym g) o)))
+    (subst (λ (z : ℕ). Is (round binary64 false m (2 * U)) false z) g (round_units false m (2 * U) (subst (λ (z : ℕ). z < O) (sym g) o)))
   where
     regroup : (q v : ℕ) → q * (2 * v) ≡ q * v * 2
     regroup q v = omega arith
@@ -272,8 +272,8 @@ pub record RootErr (n ρ : ℕ) : Type 0 where
   pub near : Near (2 ^ 53 * (2 * ρ)) (2 ^ 53 * m) m
   pub exact : ρ ≡ rnd 53 (m * U) (2 * U)
 
-pub root_of-err : (n : ℕ) → 0 < n → n < O → (ρ : ℕ) × Is (root_of_units binary64 n) false ρ × RootErr n ρ
-root_of-err n p nO =
+pub root_of_err : (n : ℕ) → 0 < n → n < O → (ρ : ℕ) × Is (root_of_units binary64 n) false ρ × RootErr n ρ
+root_of_err n p nO =
     let w = n * 2 ^ 1074 in
     let R = isqrt 2098 w in
     let k = isqrt_of n nO in
@@ -301,7 +301,7 @@ root_of-err n p nO =
     (lt_of_le_of_lt (twice R (2 ^ 1586) top) (lit< {m = 2 * 2 ^ 1586} {n = 2 ^ 2098} tt)))) in (
       ρ,
       subst (λ (z : Float). Is z false ρ) (sym (root_of_is n))
-          (round-units false m (2 * U) ρO),
+          (round_units false m (2 * U) ρO),
       record {
         R = R;
         m = m;

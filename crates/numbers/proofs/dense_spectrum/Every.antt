@@ -1,6 +1,6 @@
 -- What holds of every entry of a list, entry by entry: the steps of a loop that tests them all, for any test.
 -- What a loop has found of the entries before i decides together with the rest (`Rest`): it does at first (`rest-start`), with each entry more
--- (`rest-next`), and at the end alone (`rest-ends`).
+-- (`rest-next`), and at the end alone (`rest_ends`).
 use Rattle.std.proofs.Common.{◌≡◌, ℕ, zero, suc, ◌+◌, ◌<◌, ◌≤◌, Bool, true, false, ◌&&◌, T, List, [], ◌∷◌, length, get_or, drop, sym, refl, ap, ◌∙◌, zero-le, not-le_of_lt, add-one, arith, drop-cons}
 use mathlib.Core.Bool.{and-true, and-false, and_assoc}
 use lib.Seq.{drop-length}
@@ -25,9 +25,9 @@ module _ (p : Float → Bool) (s : List Float) where
       let rest = every p (drop (i + 1) s) in
       (omega arith, and_assoc ok (p (get_or s i d)) rest ∙ sym (ap (λ (b : Bool). ok && b) (unroll i d l)) ∙ r.1)
 
-  pub rest-ends : (i : ℕ) (ok : Bool) → Rest p s i ok → length s ≤ i → every p s ≡ ok
+  pub rest_ends : (i : ℕ) (ok : Bool) → Rest p s i ok → length s ≤ i → every p s ≡ ok
   unfolding every
-  rest-ends i ok r l =
+  rest_ends i ok r l =
       let e : i ≡ length s = omega arith in
       sym r.1 ∙ ap (λ (j : ℕ). ok && every p (drop j s)) e ∙ ap (λ (b : List Float). ok && every p b) (drop-length s) ∙ and-true ok
 

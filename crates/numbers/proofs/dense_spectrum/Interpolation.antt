@@ -10,9 +10,9 @@ use lib.Ieee.Digits.{size-le, back}
 use lib.Ieee.Fits.{and_i, and_l, and_r, eq→eqb, add-fits, div-fits}
 use lib.Ieee.Order.{drop, kept}
 use lib.Ieee.Scale.{finite}
-use Rattle.floats.proofs.Rounding.{rnd, Near, rnd-fix, rnd-mono, rnd_same, rnd-err, rnd_whole, below_or_from, size_above}
+use Rattle.floats.proofs.Rounding.{rnd, Near, rnd_fix, rnd-mono, rnd_same, rnd_err, rnd_whole, below_or_from, size_above}
 use Rattle.floats.proofs.Rounding.Units.{U, O, U_is, U_pos, U_O, Is, is_of, mag, either, unique, le-finite}
-use Rattle.floats.proofs.Rounding.NonNegative.{Fine, Ext, int_is, unit_ext, U_held, share_of, fine_under, inside, mul_ext, div_ext, sub-fine, add_ext, fine_pos, unit-fine}
+use Rattle.floats.proofs.Rounding.NonNegative.{Fine, Ext, int_is, unit_ext, U_held, share_of, fine_under, inside, mul_ext, div_ext, sub-fine, add_ext, fine_pos, unit_fine}
 use Rattle.floats.proofs.Rounding.Shares.{rnd_mono1}
 use Rattle.floats.proofs.Rounding.Error.{Fin, P, N, M, M/2, le_parts, mul-rnd, unscale, sum_mag, one_side}
 use Rattle.numbers.proofs.vec3.UnitVector.{sum_err}
@@ -91,7 +91,7 @@ next L N h g l =
 -- one step of G above a whole number is held
 held_G : (q : ℕ) → q < 9007199254740992 → rnd 53 (q * G) 1 ≡ q * G
 unfolding G
-held_G q h = rnd-fix 53 q 1030 h
+held_G q h = rnd_fix 53 q 1030 h
 
 held_next : (N : ℕ) → N < 512 → rnd 53 (N * U + G) 1 ≡ N * U + G
 held_next N h = subst (λ (z : ℕ). rnd 53 z 1 ≡ z) (tie N) (held_G (N * 17592186044416 + 1) (omega arith))
@@ -121,7 +121,7 @@ above s n k g h =
     let se : s * e < 2 * G = lt_of_le_of_lt (le_trans (mul-le-mul_left s e-le) (le_of_eq (split s b))) (lt_of_lt_of_le (mul-lt-mul_of_pos_right g.fine (pow_pos 1021)) (le_of_eq pow_1021)) in
     elim (below_or_from (k * U) (rnd 53 a c)) [
       | inl l ↦ l
-      | inr r ↦ absurd (no_way s (rnd 53 a c) k U G e (rnd-err 53 a c c0).1 r se U_pos)
+      | inr r ↦ absurd (no_way s (rnd 53 a c) k U G e (rnd_err 53 a c c0).1 r se U_pos)
     ]
   where
     top : (b : ℕ) → 2 ^ b * U ≡ 2 ^ (1074 + b)
@@ -159,8 +159,8 @@ exact-quotient s k s0 h = rnd_same 53 (s * k * U * U) (s * U) (k * U) 1 (lit< tt
 index-room : (s n k : ℕ) → Grid s n → k ≤ n → k < 9007199254740992
 index-room s n k g h = omega (arith, span s n k g h, mul-le-mul_right k (step_pos s n g))
 
-top-le : (x : ℕ) → x ≤ 470 → 360 + x ≤ 830
-top-le x h = omega arith
+top_le : (x : ℕ) → x ≤ 470 → 360 + x ≤ 830
+top_le x h = omega arith
 
 far : (x : ℕ) → x ≤ 470 → x < 9007199254740992
 far x h = omega arith
@@ -256,9 +256,9 @@ wave_range w f h =
     range_of lambda_min lambda_max w min_is.0 max_is.0 min_is.1 max_is.1 f l m
 
 -- what is accepted lies in the table
-pub wave-in_table : (w : Float) → T (is_wavelength w) → T (in_table w)
+pub wave_in_table : (w : Float) → T (is_wavelength w) → T (in_table w)
 unfolding is_wavelength in_table
-wave-in_table w h = h
+wave_in_table w h = h
 
 -- ---- the grid points
 -- the wavelength of the grid point k
@@ -294,33 +294,33 @@ module _ (step : Float) (s n : ℕ) (g : Grid s n) (i : Is step false (s * U)) w
   min-fine = subst (λ (z : ℕ). Fine lambda_min z) min_is.2 (fine_N lambda_min min_is.0 min_is.1)
 
   -- k steps, and the grid point k
-  steps-fine : (k : ℕ) → k ≤ n → Fine (step ⊗ of_int binary64 (pos k)) (s * k * U)
-  steps-fine k h =
+  steps_fine : (k : ℕ) → k ≤ n → Fine (step ⊗ of_int binary64 (pos k)) (s * k * U)
+  steps_fine k h =
       let o = of_int binary64 (pos k) in
       let sk = span s n k g h in
       let e : rnd 53 (s * U * (k * U) * U) (U * U) ≡ s * k * U = rnd_same 53 (s * U * (k * U) * U) (U * U) (s * k * U) 1 (lit< tt) (mul-pos U_pos U_pos) (lit< tt) (omega arith) ∙ held_whole (s * k) (far (s * k) sk) in
       let x = mul_ext step o (s * U) (k * U) step-fine (false, int_is k (le_of_lt (far k (omega (arith, mul-le-mul_right k s0)))), refl) in
       fine_under (step ⊗ o) (s * k * U) (subst (λ (z : ℕ). Ext (step ⊗ o) z) e x) (whole_O (s * k) (le_trans sk (lit≤ tt)))
 
-  point-fine : (k : ℕ) → k ≤ n → Fine (grid_point step k) ((360 + s * k) * U)
-  point-fine k h =
+  point_fine : (k : ℕ) → k ≤ n → Fine (grid_point step k) ((360 + s * k) * U)
+  point_fine k h =
       let p = step ⊗ of_int binary64 (pos k) in
       let l = lambda_min ⊕ p in
       let sum = 360 + s * k in
-      let top : sum ≤ 830 = top-le (s * k) (span s n k g h) in
+      let top : sum ≤ 830 = top_le (s * k) (span s n k g h) in
       let e : rnd 53 (360 * U + s * k * U) 1 ≡ sum * U = ap (λ (z : ℕ). rnd 53 z 1) (omega arith) ∙ held_whole sum (lt_of_le_of_lt top (lit< tt)) in
-      let x = add_ext lambda_min p (360 * U) (s * k * U) (inl (whole_O 360 (lit≤ tt), min-fine)) (inl (whole_O (s * k) (le_trans (span s n k g h) (lit≤ tt)), steps-fine k h)) in
+      let x = add_ext lambda_min p (360 * U) (s * k * U) (inl (whole_O 360 (lit≤ tt), min-fine)) (inl (whole_O (s * k) (le_trans (span s n k g h) (lit≤ tt)), steps_fine k h)) in
       fine_under l (sum * U) (subst (λ (z : ℕ). Ext l z) e x) (whole_O sum (le_trans top (lit≤ tt)))
 
   -- the grid point below
-  lower-fine : (j : ℕ) → suc j ≤ n → Fine (grid_point step (suc j) ⊖ step) ((360 + s * j) * U)
-  lower-fine j h =
+  lower_fine : (j : ℕ) → suc j ≤ n → Fine (grid_point step (suc j) ⊖ step) ((360 + s * j) * U)
+  lower_fine j h =
       let l = grid_point step (suc j) in
       let a = (360 + s * suc j) * U in
       let low = 360 + s * j in
-      let top : low ≤ 830 = top-le (s * j) (span s n j g (le_trans (omega arith) h)) in
+      let top : low ≤ 830 = top_le (s * j) (span s n j g (le_trans (omega arith) h)) in
       let e : rnd 53 (a - s * U) 1 ≡ low * U = ap (λ (z : ℕ). rnd 53 z 1) (less s j U) ∙ held_whole low (lt_of_le_of_lt top (lit< tt)) in
-      let x = sub-fine l step a (s * U) (point-fine (suc j) h) step-fine (omega arith) in
+      let x = sub-fine l step a (s * U) (point_fine (suc j) h) step-fine (omega arith) in
       fine_under (l ⊖ step) (low * U) (subst (λ (z : ℕ). Ext (l ⊖ step) z) e x) (whole_O low (le_trans top (lit≤ tt)))
     where
       less : (s j u : ℕ) → (360 + s * suc j) * u - s * u ≡ (360 + s * j) * u
@@ -390,7 +390,7 @@ module _ (step : Float) (s n : ℕ) (g : Grid s n) (i : Is step false (s * U)) w
         let at_360 : (360 + s * k) * U ≡ 360 * U = ap (λ (z : ℕ). (360 + s * z) * U) e ∙ ap (λ (z : ℕ). (360 + z) * U) (mul-zero s) in
         let here : L ≡ 360 * U = le_antisymm (le_trans w_le (le_of_eq at_360)) low-w in
         let pos-360 : 0 < 360 * U = mul-pos (lit< tt) U_pos in
-        let l-is = fine_pos l (360 * U) (subst (λ (z : ℕ). Fine l z) at_360 (point-fine k k-le)) pos-360 in
+        let l-is = fine_pos l (360 * U) (subst (λ (z : ℕ). Fine l z) at_360 (point_fine k k-le)) pos-360 in
         let w-is = fine_pos w (360 * U) (subst (λ (z : ℕ). Fine w z) here w-fine) pos-360 in
         let same = unique w l false (360 * U) f (add-fits B lambda_min (step ⊗ of_int binary64 (pos k))) w-is l-is in
         subst (λ (z : Float). T (eq w z)) same (eq_self w wave.fin.0)
@@ -401,7 +401,7 @@ module _ (step : Float) (s n : ℕ) (g : Grid s n) (i : Is step false (s * U)) w
     share j e =
         let l = (360 + s * j) * U in
         let lower = grid_point step k ⊖ step in
-        let l-fine : Fine lower l = subst (λ (z : ℕ). Fine (grid_point step z ⊖ step) l) (sym e) (lower-fine j (le_trans (le_of_eq (sym e)) k-le)) in
+        let l-fine : Fine lower l = subst (λ (z : ℕ). Fine (grid_point step z ⊖ step) l) (sym e) (lower_fine j (le_trans (le_of_eq (sym e)) k-le)) in
         let j-lt : j * U < quotient s L = less j U (quotient s L) (subst (λ (z : ℕ). z * U < quotient s L + U) e k-is.1) in
         let l_le = not_below s n L j g (le_trans (omega arith) (le_trans (le_of_eq (sym e)) k-le)) j-lt in
         let r = rnd 53 (L - l) 1 in
@@ -497,8 +497,8 @@ total_error A C A' C' S d₁ d₂ e h W ε a a' c c' v v' o l l' =
     let p = products_error W Z d h (two_errors A C d₁ d₂ h a' c') o (twice_sum W Z ε l l') in
     (near_sum Z (A' + C') S d e near v, join_errors Z d e p (sum_error Z (A' + C') d e near.0 p v'))
 
-mean-low : (Z S f W ε : ℕ) → Z ≤ S + f → k51 * f ≤ Z → W ≤ Z + ε → M * ε ≤ W → k50 * W ≤ k50 * S + W
-mean-low Z S f W ε a b c d = elim (below_or_from S W) [
+mean_low : (Z S f W ε : ℕ) → Z ≤ S + f → k51 * f ≤ Z → W ≤ Z + ε → M * ε ≤ W → k50 * W ≤ k50 * S + W
+mean_low Z S f W ε a b c d = elim (below_or_from S W) [
   | inl l ↦ shifted S (f + ε) W (omega arith) (omega (arith, share f W (omega arith)))
   | inr g ↦ at_once S W g
 ]
@@ -512,8 +512,8 @@ mean-low Z S f W ε a b c d = elim (below_or_from S W) [
     shifted : (S t W : ℕ) → W ≤ S + t → k50 * t ≤ W → k50 * W ≤ k50 * S + W
     shifted S t W a b = omega arith
 
-mean-high : (Z S f W ε : ℕ) → S ≤ Z + f → k51 * f ≤ Z → Z ≤ W + ε → M * ε ≤ W → k50 * S ≤ k50 * W + W
-mean-high Z S f W ε a b c d = omega (arith, reached Z S f W ε a c, join f ε W (omega (arith, quarter ε W d)) d)
+mean_high : (Z S f W ε : ℕ) → S ≤ Z + f → k51 * f ≤ Z → Z ≤ W + ε → M * ε ≤ W → k50 * S ≤ k50 * W + W
+mean_high Z S f W ε a b c d = omega (arith, reached Z S f W ε a c, join f ε W (omega (arith, quarter ε W d)) d)
   where
     quarter : (ε W : ℕ) → M * ε ≤ W → 4 * ε ≤ W
     quarter ε W d = omega arith
@@ -547,8 +547,8 @@ mean_nearly a c X lo hi x la ha lc hc far =
     let small-lo = small lo δ U δ-le in
     let err = total_error A C (p * U) (q * U) (v * U) pe.0 qe.0 se.0 (M/2 * U) (lo * U) (lo * δ) pe.1 pe.2 qe.1 qe.2 v-near v-le half low small-lo in
     let f = pe.0 + qe.0 + se.0 in
-    let l = mean-low (A + C) (v * U) f (lo * U) (lo * δ) err.0.1 err.1 low small-lo in
-    let h = mean-high (A + C) (v * U) f (hi * U) (hi * δ) err.0.0 err.1 high (small hi δ U δ-le) in
+    let l = mean_low (A + C) (v * U) f (lo * U) (lo * δ) err.0.1 err.1 low small-lo in
+    let h = mean_high (A + C) (v * U) f (hi * U) (hi * δ) err.0.0 err.1 high (small hi δ U δ-le) in
     (cancel k50 lo v lo l, cancel k50 v hi hi h)
   where
     parted : (x y u d : ℕ) → x ≤ u → u - x ≤ y + d → u ≤ x + y + d
@@ -576,7 +576,7 @@ interpolate_nearly lo hi x i₀ i₁ b f l h r₀ r₁ =
     let y = f1 ⊖ x in
     let Y = rnd 53 (U - X) 1 in
     let Y-le : Y ≤ U = le_trans (rnd_mono1 (U - X) U (omega arith)) (le_of_eq U_held.0) in
-    let y-fine = fine_under y Y (sub-fine f1 x U X unit-fine s.1 s.2) (lt_of_le_of_lt Y-le U_O) in
+    let y-fine = fine_under y Y (sub-fine f1 x U X unit_fine s.1 s.2) (lt_of_le_of_lt Y-le U_O) in
     let p = mul_ext i₀ y a Y (fine_N i₀ r₀.fin r₀.above) y-fine in
     let q = mul_ext i₁ x c X (fine_N i₁ r₁.fin r₁.above) s.1 in
     let v = i₀ ⊗ y ⊕ i₁ ⊗ x in
@@ -685,15 +685,15 @@ pub eta-limits : Limits (decimal 1 100) (decimal 100 1)
 unfolding decimal fits N U O
 eta-limits = record { fin_lo = (tt, tt); fin_hi = (tt, tt); above_lo = refl; above_hi = refl; normal = lit≤ tt; room = lit< tt }
 
-eta-sizes : (U ≤ 100 * mag (decimal 1 100)) × (mag (decimal 100 1) ≤ 100 * U)
+eta_sizes : (U ≤ 100 * mag (decimal 1 100)) × (mag (decimal 100 1) ≤ 100 * U)
 unfolding decimal U
-eta-sizes = (lit≤ tt, lit≤ tt)
+eta_sizes = (lit≤ tt, lit≤ tt)
 
 read_nearly : (e : Float) → Nearly (decimal 1 100) (decimal 100 1) e → Read e
 read_nearly e h =
     let lo = mag (decimal 1 100) in
     let hi = mag (decimal 100 1) in
-    record { fin = h.fin; above = h.above; low = at_least U lo (mag e) eta-sizes.0 h.low; high = at_most U hi (mag e) eta-sizes.1 h.high }
+    record { fin = h.fin; above = h.above; low = at_least U lo (mag e) eta_sizes.0 h.low; high = at_most U hi (mag e) eta_sizes.1 h.high }
   where
     at_least : (u l m : ℕ) → u ≤ 100 * l → k50 * l ≤ k50 * m + l → u ≤ read_most * m
     at_least u l m a b = omega arith

@@ -7,12 +7,12 @@ use lib.Ieee.Digits.{size-le}
 use lib.Ieee.Fits.{add-fits, sub-fits, of_int-fits}
 use lib.Ieee.Order.{drop, kept}
 use Rattle.floats.specs.Float.{f1}
-use Rattle.floats.proofs.Rounding.{rnd, rnd-err, size_above}
+use Rattle.floats.proofs.Rounding.{rnd, rnd_err, size_above}
 use Rattle.floats.proofs.Rounding.Units.{U, O, U_is, U_pos, Is, is_of, mag, bits_of, unique}
 use Rattle.floats.proofs.Rounding.NonNegative.{Ext, unit_is, int_is, unit_ext, fine_under, fine_pos, add_ext, sub-fine}
 use Rattle.floats.proofs.Rounding.Sizes.{is_number}
 use Rattle.numbers.specs.DenseSpectrum.{ceiling}
-use Rattle.numbers.proofs.dense_spectrum.WholePart.{held_whole, top_O, lt-units, ceiling_is}
+use Rattle.numbers.proofs.dense_spectrum.WholePart.{held_whole, top_O, lt_units, ceiling_is}
 
 abbrev B : Format
 B = binary64
@@ -51,11 +51,11 @@ whole_units : Is whole false (2 ^ 52 * U)
 whole_units = (refl, omega arith)
 
 -- 2 ^ 52 - 1/2 is 2 ^ 53 - 1 halves
-less_half-units : Is whole_less_half false ((2 ^ 53 - 1) * half)
-less_half-units = (refl, omega (arith, two_halves))
+less_half_units : Is whole_less_half false ((2 ^ 53 - 1) * half)
+less_half_units = (refl, omega (arith, two_halves))
 
-end-units : Is small_end false (2 ^ 51 * U)
-end-units = (refl, omega arith)
+end_units : Is small_end false (2 ^ 51 * U)
+end_units = (refl, omega arith)
 
 -- a + 2 ^ 52 - 1/2 lies between 2 ^ 52 and 2 ^ 53, so it is rounded to a whole number k, and a is from k - 2 ^ 52 to one more
 summed : (a k c w u : ℕ) → 2 * c + u ≡ 2 * w → (2 * (k * 1) ≤ 2 * (a + c) + 1 * u) × (2 * (a + c) ≤ 2 * (k * 1) + 1 * u) → (k ≤ a + w) × (a + w ≤ k + u)
@@ -100,7 +100,7 @@ module _ (x : Float) (a : ℕ) (i : Is x false a) (lo : U < a) (hi : a < 2 ^ 51 
   around : (k * U ≤ a + 2 ^ 52 * U) × (a + 2 ^ 52 * U ≤ k * U + U)
   unfolding exact
   around =
-      let e = rnd-err 53 exact 1 (lit< tt) in
+      let e = rnd_err 53 exact 1 (lit< tt) in
       let d : 2 ^ drop 53 exact 1 ≡ U = ap (λ (z : ℕ). 2 ^ z) dropped ∙ sym U_is in
       summed a (k * U) ((2 ^ 53 - 1) * half) (2 ^ 52 * U) U twice (subst (λ (z : ℕ). (2 * (k * U * 1) ≤ 2 * exact + 1 * z) × (2 * exact ≤ 2 * (k * U * 1) + 1 * z)) d
       (subst (λ (z : ℕ). (2 * (z * 1) ≤ 2 * exact + 1 * 2 ^ drop 53 exact 1) × (2 * exact ≤ 2 * (z * 1) + 1 * 2 ^ drop 53 exact 1)) rounded e))
@@ -109,39 +109,39 @@ module _ (x : Float) (a : ℕ) (i : Is x false a) (lo : U < a) (hi : a < 2 ^ 51 
   n : ℕ
   n = k - 2 ^ 52
 
-  k-low : 2 ^ 52 ≤ k
-  k-low = le_of_mul-le-mul_right {k = U} (let h = around.1 in omega arith) U_pos
+  k_low : 2 ^ 52 ≤ k
+  k_low = le_of_mul-le-mul_right {k = U} (let h = around.1 in omega arith) U_pos
 
-  k-high : k < 2 ^ 52 + 2 ^ 51
-  k-high = lt_of_mul-lt-mul_right U (let h = around.0 in omega arith)
+  k_high : k < 2 ^ 52 + 2 ^ 51
+  k_high = lt_of_mul-lt-mul_right U (let h = around.0 in omega arith)
 
   units : n * U + 2 ^ 52 * U ≡ k * U
   unfolding n
-  units = split k (2 ^ 52) U k-low
+  units = split k (2 ^ 52) U k_low
     where
       split : (k w u : ℕ) → w ≤ k → (k - w) * u + w * u ≡ k * u
       split k w u h = omega (arith, ap (λ (z : ℕ). z * u) (let e : k - w + w ≡ k = omega arith in e))
 
-  n-low : n * U ≤ a
-  n-low = let h = around.0 in let e = units in omega arith
+  n_low : n * U ≤ a
+  n_low = let h = around.0 in let e = units in omega arith
 
-  n-high : a ≤ n * U + U
-  n-high = let h = around.1 in let e = units in omega arith
+  n_high : a ≤ n * U + U
+  n_high = let h = around.1 in let e = units in omega arith
 
   n_pos : 0 < n
-  n_pos = lt_of_mul-lt-mul_right U (let h = n-high in omega arith)
+  n_pos = lt_of_mul-lt-mul_right U (let h = n_high in omega arith)
 
   n-few : n < 2 ^ 51
-  n-few = lt_of_mul-lt-mul_right U (lt_of_le_of_lt n-low hi)
+  n-few = lt_of_mul-lt-mul_right U (lt_of_le_of_lt n_low hi)
 
   a-O : a < O
   a-O = lt_of_lt_of_le hi (le_trans (mul-le-mul_right U (lit≤ tt)) (le_of_lt top_O))
 
   near-O : k * U < O
-  near-O = lt_of_le_of_lt (mul-le-mul_right U (le_trans (le_of_lt k-high) (lit≤ tt))) top_O
+  near-O = lt_of_le_of_lt (mul-le-mul_right U (le_trans (le_of_lt k_high) (lit≤ tt))) top_O
 
-  less-half-O : (2 ^ 53 - 1) * half < O
-  less-half-O = lt_of_le_of_lt reach top_O
+  less_half_O : (2 ^ 53 - 1) * half < O
+  less_half_O = lt_of_le_of_lt reach top_O
     where
       reach : (2 ^ 53 - 1) * half ≤ 2 ^ 53 * U
       reach = omega (arith, two_halves)
@@ -149,17 +149,17 @@ module _ (x : Float) (a : ℕ) (i : Is x false a) (lo : U < a) (hi : a < 2 ^ 51 
   near-is : Is (near x) false (k * U)
   unfolding exact
   near-is =
-      let e : Ext (near x) (k * U) = subst (λ (z : ℕ). Ext (near x) z) rounded (add_ext x whole_less_half a ((2 ^ 53 - 1) * half) (inl (a-O, (false, i, refl))) (inl (less-half-O, (false, less_half-units, refl)))) in
-      fine_pos (near x) (k * U) (fine_under (near x) (k * U) e near-O) (mul-pos (lt_of_lt_of_le (lit< tt) k-low) U_pos)
+      let e : Ext (near x) (k * U) = subst (λ (z : ℕ). Ext (near x) z) rounded (add_ext x whole_less_half a ((2 ^ 53 - 1) * half) (inl (a-O, (false, i, refl))) (inl (less_half_O, (false, less_half_units, refl)))) in
+      fine_pos (near x) (k * U) (fine_under (near x) (k * U) e near-O) (mul-pos (lt_of_lt_of_le (lit< tt) k_low) U_pos)
 
   near-bits : to_bits B (near x) ≡ 1075 * 2 ^ 52 + n
   unfolding n
   near-bits =
       bits_of (near x) false (k * U) near-is
-      ∙ ap (λ (z : ℕ). 0 + (z - 53) * 2 ^ 52 + k * U / 2 ^ (z - 53)) (digits_1127 (k * U) (mul-le-mul_right U k-low) (mul-lt-mul_of_pos_right (lt_of_lt_of_le k-high (lit≤ tt)) U_pos))
+      ∙ ap (λ (z : ℕ). 0 + (z - 53) * 2 ^ 52 + k * U / 2 ^ (z - 53)) (digits_1127 (k * U) (mul-le-mul_right U k_low) (mul-lt-mul_of_pos_right (lt_of_lt_of_le k_high (lit≤ tt)) U_pos))
       ∙ ap (λ (z : ℕ). 0 + 1074 * 2 ^ 52 + k * U / z) (sym U_is)
       ∙ ap (λ (z : ℕ). 0 + 1074 * 2 ^ 52 + z) (mul-div_cancel k U_pos)
-      ∙ carry k k-low
+      ∙ carry k k_low
     where
       carry : (k : ℕ) → 2 ^ 52 ≤ k → 0 + 1074 * 2 ^ 52 + k ≡ 1075 * 2 ^ 52 + (k - 2 ^ 52)
       carry k h = omega arith
@@ -167,8 +167,8 @@ module _ (x : Float) (a : ℕ) (i : Is x false a) (lo : U < a) (hi : a < 2 ^ 51 
   below-is : Is (below x) false (n * U)
   below-is =
       let r : rnd 53 (k * U - 2 ^ 52 * U) 1 ≡ n * U = ap (λ (z : ℕ). rnd 53 z 1) (let e = units in omega arith) ∙ held_whole n (lt_of_lt_of_le n-few (lit≤ tt)) in
-      let e : Ext (below x) (n * U) = subst (λ (z : ℕ). Ext (below x) z) r (sub-fine (near x) whole (k * U) (2 ^ 52 * U) (false, near-is, refl) (false, whole_units, refl) (mul-le-mul_right U k-low)) in
-      fine_pos (below x) (n * U) (fine_under (below x) (n * U) e (lt_of_le_of_lt n-low a-O)) (mul-pos n_pos U_pos)
+      let e : Ext (below x) (n * U) = subst (λ (z : ℕ). Ext (below x) z) r (sub-fine (near x) whole (k * U) (2 ^ 52 * U) (false, near-is, refl) (false, whole_units, refl) (mul-le-mul_right U k_low)) in
+      fine_pos (below x) (n * U) (fine_under (below x) (n * U) e (lt_of_le_of_lt n_low a-O)) (mul-pos n_pos U_pos)
 
   -- a whole number from a up, by less than one, is the ceiling
   is-ceiling : (c : ℕ) → a ≤ c * U → c * U < a + U → c ≡ ceiling x
@@ -182,13 +182,13 @@ module _ (x : Float) (a : ℕ) (i : Is x false a) (lo : U < a) (hi : a < 2 ^ 51 
   -- the number that is returned, and its double
   from_below : T (lt (below x) x) → (n + 1 ≡ ceiling x) × (add B (below x) f1 ≡ of_int B (pos (n + 1)))
   from_below t =
-      let l = (lt-units (below x) x (n * U) a below-is i).0 t in
+      let l = (lt_units (below x) x (n * U) a below-is i).0 t in
       let few : n + 1 < 2 ^ 53 = let h = n-few in omega arith in
       let sum : rnd 53 (n * U + U) 1 ≡ (n + 1) * U = ap (λ (z : ℕ). rnd 53 z 1) (next n U) ∙ held_whole (n + 1) few in
-      let e : Ext (add B (below x) f1) ((n + 1) * U) = subst (λ (z : ℕ). Ext (add B (below x) f1) z) sum (add_ext (below x) f1 (n * U) U (inl (lt_of_le_of_lt n-low a-O, (false, below-is, refl))) unit_ext) in
+      let e : Ext (add B (below x) f1) ((n + 1) * U) = subst (λ (z : ℕ). Ext (add B (below x) f1) z) sum (add_ext (below x) f1 (n * U) U (inl (lt_of_le_of_lt n_low a-O, (false, below-is, refl))) unit_ext) in
       let g = int_is (n + 1) (le_of_lt few) in
       let v = fine_pos (add B (below x) f1) ((n + 1) * U) (fine_under (add B (below x) f1) ((n + 1) * U) e (lt_of_le_of_lt (mul-le-mul_right U (le_of_lt few)) top_O)) (mul-pos (omega arith) U_pos) in (
-        is-ceiling (n + 1) (le_trans n-high (le_of_eq (next n U))) (lt_of_le_of_lt (le_of_eq (sym (next n U))) (omega arith)),
+        is-ceiling (n + 1) (le_trans n_high (le_of_eq (next n U))) (lt_of_le_of_lt (le_of_eq (sym (next n U))) (omega arith)),
         unique (add B (below x) f1) (of_int B (pos (n + 1))) false ((n + 1) * U) (add-fits B (below x) f1) (of_int-fits B (pos (n + 1))) v g,
       )
     where
@@ -197,8 +197,8 @@ module _ (x : Float) (a : ℕ) (i : Is x false a) (lo : U < a) (hi : a < 2 ^ 51 
 
   at_whole : T (not (lt (below x) x)) → (n ≡ ceiling x) × (below x ≡ of_int B (pos n))
   at_whole t =
-      let l = (lt-units (below x) x (n * U) a below-is i).1 t in (
-        is-ceiling n l (lt_of_le_of_lt n-low (omega (arith, U_pos))),
+      let l = (lt_units (below x) x (n * U) a below-is i).1 t in (
+        is-ceiling n l (lt_of_le_of_lt n_low (omega (arith, U_pos))),
         unique (below x) (of_int B (pos n)) false (n * U) (sub-fits B (near x) whole) (of_int-fits B (pos n)) below-is (int_is n (le_trans (le_of_lt n-few) (lit≤ tt))),
       )
 
@@ -211,7 +211,7 @@ small_units (fin true m e) f l h = absurd l
 small_units (fin false m e) f l h =
     let x = fin false m e in
     let i = (is_of x tt f).0 in
-    (i, (lt-units f1 x U (mag x) unit_is i).0 l, (lt-units x small_end (mag x) (2 ^ 51 * U) i end-units).0 h)
+    (i, (lt_units f1 x U (mag x) unit_is i).0 l, (lt_units x small_end (mag x) (2 ^ 51 * U) i end_units).0 h)
 small_units lib.Ieee.nan f l h = elim l [ ]
 
 -- what `small_ceiling` computes: the last digits of the sum's pattern are the ceiling, or one less

@@ -7,8 +7,8 @@ use native.Mathlib.Nat.{min-le_left, min-eq_left, lt-div-mul-add}
 use lib.Ieee.{Float, nan, inf, fin, Format, binary64, up, down, of_int, to_unsigned, lt, fits}
 use lib.Ieee.Fits.{and_i, down_pos}
 use Rattle.floats.specs.Float.{f_1}
-use Rattle.floats.proofs.Rounding.{rnd, rnd-fix}
-use Rattle.floats.proofs.Rounding.Units.{U, O, U_pos, Is, nn, fits-parts, over, over'}
+use Rattle.floats.proofs.Rounding.{rnd, rnd_fix}
+use Rattle.floats.proofs.Rounding.Units.{U, O, U_pos, Is, nn, fits_parts, over, over'}
 use Rattle.floats.proofs.Rounding.NonNegative.{Fine, int_is}
 use Rattle.numbers.specs.DenseSpectrum.{ceiling}
 
@@ -19,7 +19,7 @@ B = binary64
 -- a significand has 53 digits
 digits : (m : ℕ) (e : ℤ) → T (fits binary64 (fin false m e)) → m < 2 ^ 53
 digits zero e f = lit< tt
-digits (suc m) e f = (fits-parts false m e f).1
+digits (suc m) e f = (fits_parts false m e f).1
 
 below_top : (a k m : ℕ) → a ≡ m * 2 ^ k → m < 2 ^ 53 → a < 2 ^ 64 → a + 1 < 2 ^ 64
 below_top a zero m e d l = omega arith
@@ -46,18 +46,18 @@ room (inf false) f l = elim l [ ]
 -- ---- whole numbers, and `<`, by units
 pub held_whole : (k : ℕ) → k < 2 ^ 53 → rnd 53 (k * U) 1 ≡ k * U
 unfolding U
-held_whole k h = rnd-fix 53 k 1074 h
+held_whole k h = rnd_fix 53 k 1074 h
 
 pub top_O : 2 ^ 53 * U < O
 unfolding U O
 top_O = lit< tt
 
 -- `<` by units, of values that are not negative
-pub lt-units : (x y : Float) (a b : ℕ) → Is x false a → Is y false b → (T (lt x y) → a < b) × (T (not (lt x y)) → b ≤ a)
+pub lt_units : (x y : Float) (a b : ℕ) → Is x false a → Is y false b → (T (lt x y) → a < b) × (T (not (lt x y)) → b ≤ a)
 unfolding lt
-lt-units (fin true m e) y a b i k = absurd (true≢false i.0)
-lt-units (fin false m e) (fin true n d) a b i k = absurd (true≢false k.0)
-lt-units (fin false m e) (fin false n d) a b i k =
+lt_units (fin true m e) y a b i k = absurd (true≢false i.0)
+lt_units (fin false m e) (fin true n d) a b i k = absurd (true≢false k.0)
+lt_units (fin false m e) (fin false n d) a b i k =
     let x = m * up e * down d in
     let y = n * up d * down e in
     let dd = down e * down d in
@@ -67,10 +67,10 @@ lt-units (fin false m e) (fin false n d) a b i k =
       λ (t : T (ltb x y)). lt_of_mul-lt-mul_right dd (lt_of_le_of_lt (le_of_eq (sym ex)) (lt_of_lt_of_le (mul-lt-mul_of_pos_right (ltb→lt x y t) U_pos) (le_of_eq ey))),
       λ (t : T (not (ltb x y))). le_of_mul-le-mul_right {k = dd} (le_trans (le_of_eq (sym ey)) (le_trans (mul-le-mul_right U (nltb→le x y t)) (le_of_eq ex))) dd0,
     )
-lt-units nan y a b i k = elim i [ ]
-lt-units (inf _) y a b i k = elim i [ ]
-lt-units (fin false m e) nan a b i k = elim k [ ]
-lt-units (fin false m e) (inf _) a b i k = elim k [ ]
+lt_units nan y a b i k = elim i [ ]
+lt_units (inf _) y a b i k = elim i [ ]
+lt_units (fin false m e) nan a b i k = elim k [ ]
+lt_units (fin false m e) (inf _) a b i k = elim k [ ]
 
 lt_negative : (x : Float) (a m : ℕ) (e : ℤ) → Is x false a → T (lt x (fin true m e)) → ⊥
 unfolding lt
@@ -113,7 +113,7 @@ ceiling_is (fin false m e) n h l =
     let low = floor_low n a c d U v (div-mul-le_self a d) d0 in
     let high = floor_high n a c d U v (lt-div-mul-add d0) U_pos in
     let few : c ≤ 2 ^ 52 = le_of_mul-le-mul_right {k = U} (le_trans low l) U_pos in
-    let order = lt-units (of_int binary64 (pos c)) q (c * U) n (int_is c (le_trans few (lit≤ tt))) (refl, v) in
+    let order = lt_units (of_int binary64 (pos c)) q (c * U) n (int_is c (le_trans few (lit≤ tt))) (refl, v) in
     let above : T (lt f_1 q) = lt→ltb 0 (1 * 1 * d + a * 1) (omega arith) in
     let below : T (lt q (fin false 1 (pos 64))) = lt→ltb (a * 1) (1 * 2 ^ 64 * d) (under a c d few (lt-div-mul-add d0)) in
     let both = and_i (lt f_1 q) (lt q (fin false 1 (pos 64))) above below in

@@ -1,18 +1,18 @@
 -- The parts of a direction in the basis around a normal, both within document 01's limit on a direction.
--- Proved: the local parts are finite and at most 8 in size (`local-tame`), and one local part is at least 1 / 16 (`local-large`).
+-- Proved: the local parts are finite and at most 8 in size (`local_tame`), and one local part is at least 1 / 16 (`local_large`).
 -- The last by contradiction: an identity of polynomials gives S times a factor near 1 from the three parts and the errors, all small, so S is small; then the direction's own parts are, and their squares do not add up to 1.
 use Rattle.std.proofs.Common.{◌≡◌, ℕ, zero, suc, ◌+◌, ◌*◌, ◌/◌, ◌^◌, ◌<◌, ◌≤◌, Bool, true, false, T, ◌⊎◌, List, [], ◌∷◌, get_or, sym, refl, ap, ◌∙◌, subst, inl, inr, le_trans, le_of_eq, lt_of_le_of_lt, lt_irrefl, mul-le-mul_right, mul-le-mul_left, mul-pos, arith, lit<, lit≤, pow_pos}
 use lib.Ieee.{Float}
 use Rattle.floats.proofs.Rounding.{below_or_from}
 use Rattle.floats.proofs.Rounding.Units.{U, U_pos, sign}
-use Rattle.floats.proofs.Rounding.Error.{Fin, unit-fin}
-use Rattle.floats.proofs.Rounding.SignedPoly.{R, ◌⊞◌, ◌⊠◌, inv, nat, Ex, va, li, ◌∔◌, ◌⋆◌, minus, at, eval, vanishes, ab, ab-nat, ab-mul, ab-poly, Q, Bd, bd_more, bd_mul, bd_poly, sc, bd_unsc, lift, lift-ok, Bds, deg, homog, bound, bounded, from_bd}
+use Rattle.floats.proofs.Rounding.Error.{Fin, unit_fin}
+use Rattle.floats.proofs.Rounding.SignedPoly.{R, ◌⊞◌, ◌⊠◌, inv, nat, Ex, va, li, ◌∔◌, ◌⋆◌, minus, at, eval, vanishes, ab, ab-nat, ab-mul, ab_poly, Q, Bd, bd_more, bd_mul, bd_poly, sc, bd_unsc, lift, lift_ok, Bds, deg, homog, bound, bounded, from_bd}
 use Rattle.floats.proofs.Rounding.Expression.{rv, pow1, pow2, Fl, fv, ◌+ᶠ◌, ◌*ᶠ◌, fneg, flo, pd, ex, mg, er, tame, closed, Vars, Sound, sound}
 use Rattle.numbers.specs.declared.vec3.Vec3.{Vec3}
 use Rattle.floats.specs.Float.{f1, signum}
 use Rattle.numbers.specs.Vec3.{vec3, dot}
 use Rattle.numbers.specs.Onb.{slope, skew, basis, to_local}
-use Rattle.numbers.proofs.vec3.Direction.{Direction, Parts, parts_of, norm2, unit-norm, sg_r, sg_e, Signed, signed_of, Towards, apart, bd_sg, unit-rv, ca, c1, e_e, e18, Slope, slope_of, flip_near, divide}
+use Rattle.numbers.proofs.vec3.Direction.{Direction, Parts, parts_of, norm2, unit_norm, sg_r, sg_e, Signed, signed_of, Towards, apart, bd_sg, unit_rv, ca, c1, e_e, e18, Slope, slope_of, flip_near, divide}
 
 -- ---- the local parts as expressions of x y z, the normal; p q r, the direction; a, the slope; σ; 1
 lx_t : Fl
@@ -63,7 +63,7 @@ vars : (w d : Vec3) (b : Bool) → Given w d b → Vars (floats w d) limits
 vars w d b g =
     let ρ = slope w ∷ signum w.z ∷ f1 ∷ [] in
     let β = ca ∷ Q ∷ Q ∷ [] in
-    let one : Vars (f1 ∷ []) (Q ∷ []) = (unit-fin false, rw (unit-rv false) (bd_sg false), tt) in
+    let one : Vars (f1 ∷ []) (Q ∷ []) = (unit_fin false, rw (unit_rv false) (bd_sg false), tt) in
     let rest : Vars ρ β = (g.sl.fin, g.sl.size, (g.sg.fin, rw g.sg.is (bd_sg b), one)) in
     three_vars w (d.x ∷ d.y ∷ d.z ∷ ρ) (c1 ∷ c1 ∷ c1 ∷ β) g.pw (three_vars d ρ β g.pd' rest)
 
@@ -85,20 +85,20 @@ value_at ρ [] i = refl
 value_at ρ (e ∷ es) zero = refl
 value_at ρ (e ∷ es) (suc i) = value_at ρ es i
 
-plug-ok : (ρ : List R) (es : List Ex) (e : Ex) → eval (values ρ es) e ≡ eval ρ (plug es e)
+plug_ok : (ρ : List R) (es : List Ex) (e : Ex) → eval (values ρ es) e ≡ eval ρ (plug es e)
 unfolding plug
-plug-ok ρ es (va i) = value_at ρ es i
-plug-ok ρ es (li n) = refl
-plug-ok ρ es (e ∔ f) = λ i. plug-ok ρ es e i ⊞ plug-ok ρ es f i
-plug-ok ρ es (e ⋆ f) = λ i. plug-ok ρ es e i ⊠ plug-ok ρ es f i
-plug-ok ρ es (minus e) = λ i. inv (plug-ok ρ es e i)
+plug_ok ρ es (va i) = value_at ρ es i
+plug_ok ρ es (li n) = refl
+plug_ok ρ es (e ∔ f) = λ i. plug_ok ρ es e i ⊞ plug_ok ρ es f i
+plug_ok ρ es (e ⋆ f) = λ i. plug_ok ρ es e i ⊠ plug_ok ρ es f i
+plug_ok ρ es (minus e) = λ i. inv (plug_ok ρ es e i)
 
 abbrev exact : Bool → List Ex
 exact b = va 0 ∷ va 1 ∷ va 2 ∷ va 3 ∷ va 4 ∷ va 5 ∷ va 6 ∷ va 7 ∷ sg_e b ∷ va 0 ∷ []
 
-sg-ok : (b : Bool) (ρ : List R) → eval (nat U ∷ ρ) (sg_e b) ≡ sg_r b
-sg-ok false ρ = refl
-sg-ok true ρ = refl
+sg_ok : (b : Bool) (ρ : List R) → eval (nat U ∷ ρ) (sg_e b) ≡ sg_r b
+sg_ok false ρ = refl
+sg_ok true ρ = refl
 
 -- the variables of the polynomials: U x y z p q r a, and the local parts
 abbrev known : Vec3 → Vec3 → List R → List R
@@ -114,9 +114,9 @@ plugged : (w d : Vec3) (b : Bool) → Given w d b → (e : Fl) → Sound (floats
     → Bd (suc (pd e)) (sc (pd e) (rv (flo (floats w d) e)) ⊞ inv (eval (env w d) (plug (exact b) (ex e)))) (er limits e)
 plugged w d b g e s =
     let f = sc (pd e) (rv (flo (floats w d) e)) in
-    let σ = g.sg.is ∙ sym (sg-ok b (tail w d)) in
+    let σ = g.sg.is ∙ sym (sg_ok b (tail w d)) in
     subst (λ (t : R). Bd (suc (pd e)) (f ⊞ inv t) (er limits e))
-    ((λ i. eval (nat U ∷ known w d (σ i ∷ unit-rv false i ∷ [])) (ex e)) ∙ plug-ok (env w d) (exact b) (ex e))
+    ((λ i. eval (nat U ∷ known w d (σ i ∷ unit_rv false i ∷ [])) (ex e)) ∙ plug_ok (env w d) (exact b) (ex e))
     s.near
 
 -- ---- the polynomials: T = x p + y q, S = r - a T, N = x² + y² + z², and the factor G = z + σ N of S
@@ -179,24 +179,24 @@ bound_of w d b e i g c t q l =
     let p = inv (eval (env w d) (plug (exact b) (ex e))) in
     let s = sound (floats w d) limits e (vars w d b g) c t in
     bd_more (suc (pd e)) (eval (env w d) (lift (pd e) (va i)) ⊞ p) (er limits e) ε₀ l
-    (subst (λ (z : R). Bd (suc (pd e)) (z ⊞ p) (er limits e)) (ap (λ (z : R). sc (pd e) z) q ∙ sym (lift-ok (tail w d) (pd e) (va i))) (plugged w d b g e s))
+    (subst (λ (z : R). Bd (suc (pd e)) (z ⊞ p) (er limits e)) (ap (λ (z : R). sc (pd e) z) q ∙ sym (lift_ok (tail w d) (pd e) (va i))) (plugged w d b g e s))
 
-bound-εx : (w d : Vec3) (b : Bool) → Given w d b → Bd 5 (eval (env w d) (εx b)) ε₀
+bound_εx : (w d : Vec3) (b : Bool) → Given w d b → Bd 5 (eval (env w d) (εx b)) ε₀
 unfolding closed tame εx plug ex pd lift lx_t er mg
-bound-εx w d b g = bound_of w d b lx_t 8 g tt tt refl (lit≤ tt)
+bound_εx w d b g = bound_of w d b lx_t 8 g tt tt refl (lit≤ tt)
 
-bound-εy : (w d : Vec3) (b : Bool) → Given w d b → Bd 4 (eval (env w d) (εy b)) ε₀
+bound_εy : (w d : Vec3) (b : Bool) → Given w d b → Bd 4 (eval (env w d) (εy b)) ε₀
 unfolding closed tame εy plug ex pd lift ly_t er mg
-bound-εy w d b g = bound_of w d b ly_t 9 g tt tt refl (lit≤ tt)
+bound_εy w d b g = bound_of w d b ly_t 9 g tt tt refl (lit≤ tt)
 
-bound-εz : (w d : Vec3) (b : Bool) → Given w d b → Bd 2 (eval (env w d) (εz b)) ε₀
+bound_εz : (w d : Vec3) (b : Bool) → Given w d b → Bd 2 (eval (env w d) (εz b)) ε₀
 unfolding closed tame εz plug ex pd lift lz_t er mg
-bound-εz w d b g = bound_of w d b lz_t 10 g tt tt refl (lit≤ tt)
+bound_εz w d b g = bound_of w d b lz_t 10 g tt tt refl (lit≤ tt)
 
-bound-εE : (w d : Vec3) (b : Bool) → Given w d b → Bd 2 (eval (env w d) (εE b)) e_e
+bound_εE : (w d : Vec3) (b : Bool) → Given w d b → Bd 2 (eval (env w d) (εE b)) e_e
 unfolding εE
-bound-εE w d false g = g.sl.near
-bound-εE w d true g = g.sl.near
+bound_εE w d false g = g.sl.near
+bound_εE w d true g = g.sl.near
 
 -- ---- where all three parts are at most 1 / 16: a bound on S, then on p, q and r
 -- 1 / 16
@@ -238,7 +238,7 @@ bds : (w d : Vec3) (b : Bool) (s : ℕ) → Given w d b → Small w d → Bd 3 (
 bds w d b s g h hs =
     let e = env w d in
     let errors : Bds (eval e (εx b) ∷ eval e (εy b) ∷ eval e (εz b) ∷ eval e (εE b) ∷ eval e S₀ ∷ []) (5 ∷ 4 ∷ 2 ∷ 2 ∷ 3 ∷ []) (ε₀ ∷ ε₀ ∷ ε₀ ∷ e_e ∷ s ∷ []) =
-    (bound-εx w d b g, (bound-εy w d b g, (bound-εz w d b g, (bound-εE w d b g, (hs, tt))))) in
+    (bound_εx w d b g, (bound_εy w d b g, (bound_εz w d b g, (bound_εE w d b g, (hs, tt))))) in
     known-bds w d b (rv (lx w d) ∷ rv (ly w d) ∷ rv (lz w d) ∷ eval e (εx b) ∷ eval e (εy b) ∷ eval e (εz b) ∷ eval e (εE b) ∷ eval e S₀ ∷ [])
     (1 ∷ 1 ∷ 1 ∷ 5 ∷ 4 ∷ 2 ∷ 2 ∷ 3 ∷ []) (m ∷ m ∷ m ∷ ε₀ ∷ ε₀ ∷ ε₀ ∷ e_e ∷ s ∷ []) g (h.sx, (h.sy, (h.sz, errors)))
 
@@ -269,12 +269,12 @@ unfolding b6 bound deg εx εy εz εE
 bound_right w d false g h =
     let all = bds w d false (5 * Q) g h (rough w d false g) in
     subst (λ (t : ℕ). Q * t ≤ b6 * U ^ 6)
-    (sym (ab-poly (env w d) (G₀ false ⋆ S₀) (right false (εx false) (εy false) (εz false) (εE false)) (identity false)))
+    (sym (ab_poly (env w d) (G₀ false ⋆ S₀) (right false (εx false) (εy false) (εz false) (εE false)) (identity false)))
     (bounded (full w d false) degs (lims (5 * Q)) (right false (va 11) (va 12) (va 13) (va 14)) all (right_homog false))
 bound_right w d true g h =
     let all = bds w d true (5 * Q) g h (rough w d true g) in
     subst (λ (t : ℕ). Q * t ≤ b6 * U ^ 6)
-    (sym (ab-poly (env w d) (G₀ true ⋆ S₀) (right true (εx true) (εy true) (εz true) (εE true)) (identity true)))
+    (sym (ab_poly (env w d) (G₀ true ⋆ S₀) (right true (εx true) (εy true) (εz true) (εE true)) (identity true)))
     (bounded (full w d true) degs (lims (5 * Q)) (right true (va 11) (va 12) (va 13) (va 14)) all (right_homog true))
 
 -- the factor of S is at least 1023 / 1024
@@ -302,7 +302,7 @@ factor w b dw t ρ =
     let v = σz ⊠ (nat U ⊠ nat U) in
     let n = norm2 w ⊞ inv (nat U ⊠ nat U) in
     let D = sg_r b ⊠ n in
-    let bD : Bd 3 D (Q * e18 / Q + 1) = bd_mul 1 2 (sg_r b) n Q e18 (bd_sg b) (unit-norm w dw) in
+    let bD : Bd 3 D (Q * e18 / Q + 1) = bd_mul 1 2 (sg_r b) n Q e18 (bd_sg b) (unit_norm w dw) in
     let size-v : ab v ≡ ab σz * (U * U) = ab-mul σz (nat U ⊠ nat U) ∙ ap (λ (z : ℕ). ab σz * z) one_one in
     let av : U ^ 3 ≤ ab v = le_trans (le_of_eq pow3) (le_trans (mul-le-mul_right (U * U) (apart b w.z t)) (le_of_eq (sym size-v))) in
     go (U ^ 3) (ab v) (ab g) (ab D) av (subst (λ (z : ℕ). ab v ≤ ab g + z) (same b) (flip_near g v)) bD
@@ -315,12 +315,12 @@ factor w b dw t ρ =
 
     same : (b : Bool) → ab (eval (nat U ∷ rv w.x ∷ rv w.y ∷ rv w.z ∷ ρ) (G₀ b) ⊞ inv ((sg_r b ⊞ rv w.z) ⊠ (nat U ⊠ nat U)))
         ≡ ab (sg_r b ⊠ (norm2 w ⊞ inv (nat U ⊠ nat U)))
-    same false = ab-poly normal (G₀ false ∔ minus ((sg_e false ∔ va 3) ⋆ (va 0 ⋆ va 0))) (sg_e false ⋆ (N₀ ∔ minus (va 0 ⋆ va 0))) tt
-    same true = ab-poly normal (G₀ true ∔ minus ((sg_e true ∔ va 3) ⋆ (va 0 ⋆ va 0))) (sg_e true ⋆ (N₀ ∔ minus (va 0 ⋆ va 0))) tt
+    same false = ab_poly normal (G₀ false ∔ minus ((sg_e false ∔ va 3) ⋆ (va 0 ⋆ va 0))) (sg_e false ⋆ (N₀ ∔ minus (va 0 ⋆ va 0))) tt
+    same true = ab_poly normal (G₀ true ∔ minus ((sg_e true ∔ va 3) ⋆ (va 0 ⋆ va 0))) (sg_e true ⋆ (N₀ ∔ minus (va 0 ⋆ va 0))) tt
 
-fine-b6 : 1024 * b6 ≤ 1023 * b_s
+fine_b6 : 1024 * b6 ≤ 1023 * b_s
 unfolding b6 bound
-fine-b6 = lit≤ tt
+fine_b6 = lit≤ tt
 
 bound_S : (w d : Vec3) (b : Bool) → Direction w → Given w d b → Small w d → Bd 3 (eval (env w d) S₀) b_s
 bound_S w d b dw g h =
@@ -330,7 +330,7 @@ bound_S w d b dw g h =
     divide (ab G) (ab S) (U ^ 3) b6 b_s pow3_pos
     (subst (λ (z : ℕ). Q * z ≤ b6 * (U ^ 3 * U ^ 3)) (ab-mul G S) product)
     (factor w b dw g.sg.to (rv d.x ∷ rv d.y ∷ rv d.z ∷ rv (slope w) ∷ rv (lx w d) ∷ rv (ly w d) ∷ rv (lz w d) ∷ []))
-    fine-b6
+    fine_b6
 
 -- ---- p, q, r: from a local part, its error and S
 abbrev turn : Bool → Ex → Ex
@@ -370,11 +370,11 @@ br = 10514644122014444544
 
 out4 : (ρ : List R) (i c : ℕ) → Bd 5 (eval (nat U ∷ ρ) (U4 (va i))) c → Bd 1 (eval (nat U ∷ ρ) (va i)) c
 unfolding lift
-out4 ρ i c h = bd_unsc 4 1 (eval (nat U ∷ ρ) (va i)) c (subst (λ (z : R). Bd 5 z c) (lift-ok ρ 4 (va i)) h)
+out4 ρ i c h = bd_unsc 4 1 (eval (nat U ∷ ρ) (va i)) c (subst (λ (z : R). Bd 5 z c) (lift_ok ρ 4 (va i)) h)
 
 out3 : (ρ : List R) (i c : ℕ) → Bd 4 (eval (nat U ∷ ρ) (U3 (va i))) c → Bd 1 (eval (nat U ∷ ρ) (va i)) c
 unfolding lift
-out3 ρ i c h = bd_unsc 3 1 (eval (nat U ∷ ρ) (va i)) c (subst (λ (z : R). Bd 4 z c) (lift-ok ρ 3 (va i)) h)
+out3 ρ i c h = bd_unsc 3 1 (eval (nat U ∷ ρ) (va i)) c (subst (λ (z : R). Bd 4 z c) (lift_ok ρ 3 (va i)) h)
 
 bound_p : (w d : Vec3) (b : Bool) → Bds (full w d b) degs (lims b_s) → Bd 1 (rv d.x) bp
 unfolding bound deg homog εx
@@ -413,7 +413,7 @@ too_small d dd hx hy hz =
     let n = ab (norm2 d) in
     let f = ab (norm2 d ⊞ inv one) in
     let s : Bd 2 (norm2 d) e = bounded (rv d.x ∷ rv d.y ∷ rv d.z ∷ []) (1 ∷ 1 ∷ 1 ∷ []) β squares (hx, (hy, (hz, tt))) tt in
-    let both = two_bounds n f e e18 (U ^ 2) s (unit-norm d dd) in
+    let both = two_bounds n f e e18 (U ^ 2) s (unit_norm d dd) in
     let square-pos = subst (λ (z : ℕ). 0 < z) (sym pow2) (mul-pos U_pos U_pos) in
     go (ab one) n f (U ^ 2) (e + e18) (one_one ∙ sym pow2) (flip_near (norm2 d) one) both (lit< tt) square-pos
   where
@@ -457,9 +457,9 @@ tamed ρ β e v c t h =
     let a = ab (rv (flo ρ e)) in
     record { fin = s.fin; size = from_bd a (mg β e) 8 U (subst (λ (z : ℕ). Q * a ≤ mg β e * z) pow1 s.most) h }
 
-pub local-tame : (w d : Vec3) → Direction w → Direction d → Tame3 (to_local (basis w) d)
+pub local_tame : (w d : Vec3) → Direction w → Direction d → Tame3 (to_local (basis w) d)
 unfolding closed tame mg lx_t ly_t lz_t
-local-tame w d dw dd =
+local_tame w d dw dd =
     let v = vars w d (sign w.z) (given w d dw dd) in
     rw (local_is w d) (
       tamed (floats w d) limits lx_t v tt tt (lit≤ tt),
@@ -467,8 +467,8 @@ local-tame w d dw dd =
       tamed (floats w d) limits lz_t v tt tt (lit≤ tt),
     )
 
-pub local-large : (w d : Vec3) → Direction w → Direction d → let l = to_local (basis w) d in Large l.x ⊎ (Large l.y ⊎ Large l.z)
-local-large w d dw dd = rw (local_is w d) (go (size_of (lx w d)) (size_of (ly w d)) (size_of (lz w d)))
+pub local_large : (w d : Vec3) → Direction w → Direction d → let l = to_local (basis w) d in Large l.x ⊎ (Large l.y ⊎ Large l.z)
+local_large w d dw dd = rw (local_is w d) (go (size_of (lx w d)) (size_of (ly w d)) (size_of (lz w d)))
   where
     size_of : (x : Float) → (16 * ab (rv x) < U) ⊎ Large x
     size_of x = below_or_from (16 * ab (rv x)) U

@@ -1,14 +1,14 @@
--- What an accepted chain of checks tells: each test in it passed (`test-passed`, `first_passed`, `next_passed`). By cases on the first check.
+-- What an accepted chain of checks tells: each test in it passed (`test_passed`, `first_passed`, `next_passed`). By cases on the first check.
 use Rattle.std.proofs.Common.{◌≡◌, ℕ, Bool, true, false, T, refl, arith}
 use Rattle.numbers.specs.Refusal.{Verdict, accepted, rejected, refuse, ◌then◌}
 
 never : (n : ℕ) → rejected n ≡ accepted → ⊥
 never n e = let z : ◌≡◌ {A = ℕ} 0 1 = cc in omega arith
 
-pub test-passed : (n : ℕ) (b : Bool) → refuse n b ≡ accepted → T b
+pub test_passed : (n : ℕ) (b : Bool) → refuse n b ≡ accepted → T b
 unfolding refuse
-test-passed n true e = tt
-test-passed n false e = never n e
+test_passed n true e = tt
+test_passed n false e = never n e
 
 pub first_passed : (c d : Verdict) → (c then d) ≡ accepted → c ≡ accepted
 unfolding ◌then◌

@@ -1,14 +1,14 @@
 -- What document 01's limit on a direction tells of its parts, and the slope of the basis around it.
--- Proved: a vector of binary64 values that `is_direction` accepts has finite parts below 1 + 2 ^ -13 (`parts_of`), and the exact sum of their squares is 1 within 2 ^ -18 (`unit-norm`);
+-- Proved: a vector of binary64 values that `is_direction` accepts has finite parts below 1 + 2 ^ -13 (`parts_of`), and the exact sum of their squares is 1 within 2 ^ -18 (`unit_norm`);
 -- the slope -1 / (sgn + z) is finite, and its product with the divisor is -1 within 2 ^ -50 (`slope_of`). The parts from the order of rounded sums, the rest from Expression and the error of the quotient.
 use Rattle.std.proofs.Common.{◌≡◌, ℕ, ◌+◌, ◌-◌, ◌*◌, ◌/◌, ◌^◌, ◌<◌, ◌≤◌, Bool, true, false, T, ◌⊎◌, List, [], ◌∷◌, pos, negsuc, sym, refl, ap, ◌∙◌, subst, inl, inr, zero-le, le_trans, le_of_eq, le_refl, lt_of_le_of_lt, lt_irrefl, mul-le-mul_right, mul_comm, mul-le-mul, mul-le-mul_left, mul-pos, not-le_of_lt, le_of_mul-le-mul_right, arith, lit<, lit≤}
 use lib.Ieee.{Float, nan, inf, fin, Format, binary64, add, mul, le, fits}
 use lib.Ieee.Fits.{and_l, and_r}
-use Rattle.floats.proofs.Rounding.{rnd, Near, rnd-fix, rnd-mono, rnd_idem, below_or_from}
+use Rattle.floats.proofs.Rounding.{rnd, Near, rnd_fix, rnd-mono, rnd_idem, below_or_from}
 use Rattle.floats.proofs.Rounding.Units.{U, O, U_pos, is_of, sign, mag, add-nan}
 use Rattle.floats.proofs.Rounding.NonNegative.{Ext, le_ext, add_ext, rnd_O, two_U, two_O, square_ext, rnd-ge}
-use Rattle.floats.proofs.Rounding.Error.{Fin, P, N, M, M/2, le_parts, div-err, unit-fin, m1_is}
-use Rattle.floats.proofs.Rounding.SignedPoly.{R, ◌⊞◌, ◌⊠◌, inv, nat, Ex, va, ◌∔◌, ◌⋆◌, minus, vanishes, ab, ab-add, ab-inv, ab-nat, ab-mul, ab-poly, Q, Bd, bd_more, bd_add, bd_inv, bd_mul, sc, bd_sc, lift, from_bd}
+use Rattle.floats.proofs.Rounding.Error.{Fin, P, N, M, M/2, le_parts, div_err, unit_fin, m1_is}
+use Rattle.floats.proofs.Rounding.SignedPoly.{R, ◌⊞◌, ◌⊠◌, inv, nat, Ex, va, ◌∔◌, ◌⋆◌, minus, vanishes, ab, ab-add, ab-inv, ab-nat, ab-mul, ab_poly, Q, Bd, bd_more, bd_add, bd_inv, bd_mul, sc, bd_sc, lift, from_bd}
 use Rattle.floats.proofs.Rounding.Expression.{rv, size-ab, pow1, pow2, ulp, add_bd, Fl, fv, ◌+ᶠ◌, ◌*ᶠ◌, pd, ex, mg, er, tame, closed, Sound, sound, size-mag}
 use Rattle.numbers.specs.declared.vec3.Vec3.{Vec3}
 use Rattle.floats.specs.Float.{◌⊕◌, ◌⊗◌, f_1, decimal, within, signum}
@@ -121,7 +121,7 @@ K = 4097 * 2 ^ 1062
 
 K_held : rnd 53 K 1 ≡ K
 unfolding K
-K_held = rnd-fix 53 4097 1062 (lit< tt)
+K_held = rnd_fix 53 4097 1062 (lit< tt)
 
 H_K : H < K
 unfolding H K
@@ -219,17 +219,17 @@ norm2 w = rv w.x ⊠ rv w.x ⊞ rv w.y ⊠ rv w.y ⊞ rv w.z ⊠ rv w.z
 abbrev limits : List ℕ
 limits = c1 ∷ c1 ∷ c1 ∷ []
 
-squares-sound : (w : Vec3) → Parts w → Sound (w.x ∷ w.y ∷ w.z ∷ []) limits squares
+squares_sound : (w : Vec3) → Parts w → Sound (w.x ∷ w.y ∷ w.z ∷ []) limits squares
 unfolding closed tame squares
-squares-sound w p = sound (w.x ∷ w.y ∷ w.z ∷ []) limits squares (p.px.fin, p.px.size, (p.py.fin, p.py.size, (p.pz.fin, p.pz.size, tt))) tt tt
+squares_sound w p = sound (w.x ∷ w.y ∷ w.z ∷ []) limits squares (p.px.fin, p.px.size, (p.py.fin, p.py.size, (p.pz.fin, p.pz.size, tt))) tt tt
 
-low-fin : Fin low
+low_fin : Fin low
 unfolding fits
-low-fin = (tt, tt)
+low_fin = (tt, tt)
 
-high-fin : Fin high
+high_fin : Fin high
 unfolding fits
-high-fin = (tt, tt)
+high_fin = (tt, tt)
 
 low_parts : (524287 * U ≤ 524288 * P low) × (N low ≡ 0)
 unfolding P N U
@@ -249,8 +249,8 @@ e18 = 70368744177664
 close : (n : Float) → Fin n → T (le low n) → T (le n high) → Bd 1 (rv n ⊞ inv (nat U)) e19
 unfolding ab ◌⊞◌ inv
 close n f l h =
-    let above = le_parts low n low-fin f l in
-    let below = le_parts n high f high-fin h in
+    let above = le_parts low n low_fin f l in
+    let below = le_parts n high f high_fin h in
     rw pow1 (go (P low) (N low) (P high) (N high) (P n) (N n) U above below low_parts.0 low_parts.1 high_parts.0 high_parts.1)
   where
     wide : (t u : ℕ) → 524288 * t ≤ u → Q * t ≤ e19 * u
@@ -260,10 +260,10 @@ close n f l h =
         → Q * ((p + 0 - (n + u)) + (n + u - (p + 0))) ≤ e19 * u
     go a b c d p n u h k l m x y = wide ((p + 0 - (n + u)) + (n + u - (p + 0))) u (omega arith)
 
-pub unit-norm : (w : Vec3) → Direction w → Bd 2 (norm2 w ⊞ inv (nat U ⊠ nat U)) e18
+pub unit_norm : (w : Vec3) → Direction w → Bd 2 (norm2 w ⊞ inv (nat U ⊠ nat U)) e18
 unfolding vanishes sc pd ex lift er mg squares dot
-unit-norm w d =
-    let s = squares-sound w (parts_of w d) in
+unit_norm w d =
+    let s = squares_sound w (parts_of w d) in
     let n = dot w w in
     let e = er limits squares in
     let off = sc 1 (rv n) ⊞ inv (norm2 w) in
@@ -276,7 +276,7 @@ unit-norm w d =
     joined : (u : R) → u ≡ nat U → (n s : R) → ab (inv (u ⊠ n ⊞ inv s) ⊞ u ⊠ (n ⊞ inv (nat U))) ≡ ab (s ⊞ inv (nat U ⊠ nat U))
     joined u q n s =
         ap (λ (z : R). ab (inv (z ⊠ n ⊞ inv s) ⊞ z ⊠ (n ⊞ inv (nat U)))) q
-        ∙ ab-poly (nat U ∷ n ∷ s ∷ []) (minus (va 0 ⋆ va 1 ∔ minus (va 2)) ∔ va 0 ⋆ (va 1 ∔ minus (va 0))) (va 2 ∔ minus (va 0 ⋆ va 0)) tt
+        ∙ ab_poly (nat U ∷ n ∷ s ∷ []) (minus (va 0 ⋆ va 1 ∔ minus (va 2)) ∔ va 0 ⋆ (va 1 ∔ minus (va 0))) (va 2 ∔ minus (va 0 ⋆ va 0)) tt
 
 -- ---- the sign of z
 abbrev pub sg_r : Bool → R
@@ -296,10 +296,10 @@ pub record Signed (z : Float) (b : Bool) : Type 0 where
   pub is : rv (signum z) ≡ sg_r b
   pub to : Towards b z
 
-pub unit-rv : (s : Bool) → rv (fin s 1 (pos 0)) ≡ sg_r s
+pub unit_rv : (s : Bool) → rv (fin s 1 (pos 0)) ≡ sg_r s
 unfolding P N U inv
-unit-rv false = refl
-unit-rv true = refl
+unit_rv false = refl
+unit_rv true = refl
 
 towards : (z : Float) → Towards (sign z) z
 unfolding P N
@@ -313,11 +313,11 @@ pub signed_of : (z : Float) → Fin z → Signed z (sign z)
 unfolding signum
 signed_of nan f = absurd f.0
 signed_of (inf s) f = absurd f.0
-signed_of (fin s m e) f = record { fin = unit-fin s; is = unit-rv s; to = towards (fin s m e) }
+signed_of (fin s m e) f = record { fin = unit_fin s; is = unit_rv s; to = towards (fin s m e) }
 
-sg-size : (b : Bool) → ab (sg_r b) ≡ U
-sg-size false = ab-nat U
-sg-size true = ab-inv (nat U) ∙ ab-nat U
+sg_size : (b : Bool) → ab (sg_r b) ≡ U
+sg_size false = ab-nat U
+sg_size true = ab-inv (nat U) ∙ ab-nat U
 
 -- |σ + z| is at least 1
 pub apart : (b : Bool) (z : Float) → Towards b z → U ≤ ab (sg_r b ⊞ rv z)
@@ -326,7 +326,7 @@ apart false z h = omega arith
 apart true z h = omega arith
 
 pub bd_sg : (b : Bool) → Bd 1 (sg_r b) Q
-bd_sg b = le_of_eq (ap (λ (z : ℕ). Q * z) (sg-size b ∙ sym pow1))
+bd_sg b = le_of_eq (ap (λ (z : ℕ). Q * z) (sg_size b ∙ sym pow1))
 
 -- ---- the slope: -1 / (σ + z)
 -- a little above 1, and 2 ^ -50
@@ -348,7 +348,7 @@ slack = lit≤ tt
 pub flip_near : (z w : R) → ab w ≤ ab z + ab (z ⊞ inv w)
 unfolding vanishes
 flip_near z w =
-    le_trans (le_of_eq (ab-poly (z ∷ w ∷ []) (va 1) (va 0 ∔ minus (va 0 ∔ minus (va 1))) tt))
+    le_trans (le_of_eq (ab_poly (z ∷ w ∷ []) (va 1) (va 0 ∔ minus (va 0 ∔ minus (va 1))) tt))
     (le_trans (ab-add z (inv (z ⊞ inv w))) (le_of_eq (ap (λ (v : ℕ). ab z + v) (ab-inv (z ⊞ inv w)))))
 
 pub divide : (g s c e b : ℕ) → 0 < c → Q * (g * s) ≤ e * (c * c) → 1023 * c ≤ 1024 * g → 1024 * e ≤ 1023 * b → Q * s ≤ b * c
@@ -392,11 +392,11 @@ a_near : (p : R) → ab p ≤ ab (p ⊞ nat U ⊠ nat U) + U * U
 unfolding vanishes
 a_near p =
     let one = nat U ⊠ nat U in
-    le_trans (le_of_eq (ab-poly (p ∷ nat U ∷ []) (va 0) (va 0 ∔ va 1 ⋆ va 1 ∔ minus (va 1 ⋆ va 1)) tt))
+    le_trans (le_of_eq (ab_poly (p ∷ nat U ∷ []) (va 0) (va 0 ∔ va 1 ⋆ va 1 ∔ minus (va 1 ⋆ va 1)) tt))
     (le_trans (ab-add (p ⊞ one) (inv one)) (le_of_eq (ap (λ (v : ℕ). ab (p ⊞ one) + v) (ab-inv one ∙ ab-mul (nat U) (nat U) ∙ ap (λ (v : ℕ). v * v) (ab-nat U)))))
 
-prod-le : (p x v a t : ℕ) → p ≡ a * t → p ≤ x + v → Q * x ≤ 4096 * v → Q * (a * t) ≤ (4096 + Q) * v
-prod-le p x v a t e h g = omega arith
+prod_le : (p x v a t : ℕ) → p ≡ a * t → p ≤ x + v → Q * x ≤ 4096 * v → Q * (a * t) ≤ (4096 + Q) * v
+prod_le p x v a t e h g = omega arith
 
 size_a : (a t u : ℕ) → 0 < u → Q * (a * t) ≤ (4096 + Q) * (u * u) → 1023 * u ≤ 1024 * t → Q * a ≤ ca * u
 size_a a t u u0 h g = divide t a u (4096 + Q) ca u0 (le_trans (le_of_eq (ap (λ (z : ℕ). Q * z) (mul_comm t a))) h) g (lit≤ tt)
@@ -404,7 +404,7 @@ size_a a t u u0 h g = divide t a u (4096 + Q) ca u0 (le_trans (le_of_eq (ap (λ 
 -- from the computed divisor t to the exact one s
 exact : (a t s : R) → ab (a ⊠ t ⊞ nat U ⊠ nat U ⊞ inv (a ⊠ (t ⊞ inv s))) ≡ ab (nat U ⊠ nat U ⊞ a ⊠ s)
 unfolding vanishes
-exact a t s = ab-poly (nat U ∷ a ∷ t ∷ s ∷ []) (va 1 ⋆ va 2 ∔ va 0 ⋆ va 0 ∔ minus (va 1 ⋆ (va 2 ∔ minus (va 3)))) (va 0 ⋆ va 0 ∔ va 1 ⋆ va 3) tt
+exact a t s = ab_poly (nat U ∷ a ∷ t ∷ s ∷ []) (va 1 ⋆ va 2 ∔ va 0 ⋆ va 0 ∔ minus (va 1 ⋆ (va 2 ∔ minus (va 3)))) (va 0 ⋆ va 0 ∔ va 1 ⋆ va 3) tt
 
 pub slope_of : (w : Vec3) (b : Bool) → Part w.z → Signed w.z b → Slope w b
 unfolding slope
@@ -425,12 +425,12 @@ slope_of w b p g =
     let high-t : T₀ ≤ 3 * U = highs T₀ U (rw pow1 at s.2) in
     let t0 : 0 < P t + N t = subst (λ (z : ℕ). 0 < z) (sym st) (above_zero T₀ U low-t U_pos) in
     -- the quotient: its product with the divisor, and its size
-    let d = div-err f_1 t (unit-fin true) s.0 t0 (rw (st, m1_size) (below_O T₀ low-t)) in
+    let d = div_err f_1 t (unit_fin true) s.0 t0 (rw (st, m1_size) (below_O T₀ low-t)) in
     let W = rv a ⊠ rv t ⊞ nat U ⊠ nat U in
     let eW = err (P a) (N a) (P t) (N t) T₀ (rw (m1_is.0, m1_is.1, st) at d.1) in
     let bW : Bd 2 W 4096 = rw pow2 (shrunk (ab W) (U * U) (M/2 * T₀) U eW (mul-le-mul_left M/2 high-t) slack) in
     let A = ab (rv a) in
-    let at_most = prod-le (ab (rv a ⊠ rv t)) (ab W) (U * U) A T₀ (ab-mul (rv a) (rv t)) (a_near (rv a ⊠ rv t)) (rw pow2 at bW) in
+    let at_most = prod_le (ab (rv a ⊠ rv t)) (ab W) (U * U) A T₀ (ab-mul (rv a) (rv t)) (a_near (rv a ⊠ rv t)) (rw pow2 at bW) in
     let ba : Bd 1 (rv a) ca = rw pow1 (size_a A T₀ U U_pos at_most low-t) in
     -- and its product with the exact divisor
     let c = ca * k / Q + 1 in

@@ -28,8 +28,8 @@ sum3 a b c = rnd 53 (rnd 53 (sq a + sq b) 1 + sq c) 1
 abbrev pub norm : ℕ → ℕ → ℕ → ℕ
 norm a b c = a * a + b * b + c * c
 
-sq-err : (a : ℕ) → Within (sq a * U) (a * a) (a * a + M/2 * U)
-sq-err a = unscale (sq a * U) (a * a) (a * a + M/2 * U) (mul-rnd (a * a))
+sq_err : (a : ℕ) → Within (sq a * U) (a * a) (a * a + M/2 * U)
+sq_err a = unscale (sq a * U) (a * a) (a * a + M/2 * U) (mul-rnd (a * a))
 
 pub sum_err : (n : ℕ) → Within (rnd 53 n 1 * U) (n * U) (n * U)
 sum_err n = unscale (rnd 53 n 1 * U) (n * U) (n * U) (times (rnd 53 n 1) (rnd_whole 53 n (lit< tt)))
@@ -64,11 +64,11 @@ sums A B C X Y Z S W v d₁ d₂ d₃ d₄ d₅ a a' b b' c c' d d' e e' h =
         → A + v + (B + v) + (C + v) + p + q ≤ 4 * (A + B + C) → k51 * (d₁ + d₂ + d₃ + d₄ + d₅) ≤ A + B + C
     final A B C v d₁ d₂ d₃ d₄ d₅ p q a b c d e h = omega arith
 
-pub sum3-err : (a b c : ℕ) → 1024 * (M/2 * U) ≤ norm a b c → Near (k51 * (sum3 a b c * U)) (k51 * norm a b c) (norm a b c)
-sum3-err a b c h =
-    let x = sq-err a in
-    let y = sq-err b in
-    let z = sq-err c in
+pub sum3_err : (a b c : ℕ) → 1024 * (M/2 * U) ≤ norm a b c → Near (k51 * (sum3 a b c * U)) (k51 * norm a b c) (norm a b c)
+sum3_err a b c h =
+    let x = sq_err a in
+    let y = sq_err b in
+    let z = sq_err c in
     let ab = rnd 53 (sq a + sq b) 1 in
     let s = sum_err (sq a + sq b) in
     let t = sum_err (ab + sq c) in
@@ -95,11 +95,11 @@ lin' : (p x w y : ℕ) → y ≤ M * (4 * p) + 3 * x → M * (4 * w) ≤ y + w �
 lin' p x w y a b c = omega arith
 
 -- with δ at most m / M
-cross-small : (m δ : ℕ) → M * δ ≤ m → M * (m * δ) ≤ m * m
-cross-small m δ g = let h = mul-le-mul_left m g in omega arith
+cross_small : (m δ : ℕ) → M * δ ≤ m → M * (m * δ) ≤ m * m
+cross_small m δ g = let h = mul-le-mul_left m g in omega arith
 
-square-small : (m δ : ℕ) → M * δ ≤ m → M * (δ * δ) ≤ m * m
-square-small m δ g = let d : δ ≤ m = omega arith in let h = mul-le-mul g d in omega arith
+square_small : (m δ : ℕ) → M * δ ≤ m → M * (δ * δ) ≤ m * m
+square_small m δ g = let d : δ ≤ m = omega arith in let h = mul-le-mul g d in omega arith
 
 root-sq : (R m ρ w : ℕ) → R * R ≤ w → w < (R + 1) * (R + 1) → 2 * R ≤ m → m ≤ 2 * R + 1 → Near (M * (2 * ρ)) (M * m) m → 144115188075855872 ≤ R
     → Near (k51 * (ρ * ρ)) (k51 * w) w
@@ -115,7 +115,7 @@ root-sq R m ρ w a b c d e f =
         lin p m g h = omega arith
 
         up : (δ : ℕ) → 2 * ρ ≡ m + δ → M * δ ≤ m → Near (M * (4 * (ρ * ρ))) (M * (m * m)) (3 * (m * m))
-        up δ q g = lin2 (ρ * ρ) (m * m) (m * δ) (δ * δ) (four ρ m δ q) (cross-small m δ g) (square-small m δ g)
+        up δ q g = lin2 (ρ * ρ) (m * m) (m * δ) (δ * δ) (four ρ m δ q) (cross_small m δ g) (square_small m δ g)
           where
             four : (ρ m δ : ℕ) → 2 * ρ ≡ m + δ → 4 * (ρ * ρ) ≡ m * m + 2 * (m * δ) + δ * δ
             four ρ m δ q = let x : 4 * (ρ * ρ) ≡ 2 * ρ * (2 * ρ) = omega arith in x ∙ ap (λ (z : ℕ). z * z) q ∙ omega arith
@@ -128,7 +128,7 @@ root-sq R m ρ w a b c d e f =
         lin p m g = omega arith
 
         down : (δ : ℕ) → m ≡ 2 * ρ + δ → M * δ ≤ m → Near (M * (4 * (ρ * ρ))) (M * (m * m)) (3 * (m * m))
-        down δ q g = lin2 (ρ * ρ) (m * m) (m * δ) (δ * δ) (four ρ m δ q) (cross-small m δ g) (square-small m δ g)
+        down δ q g = lin2 (ρ * ρ) (m * m) (m * δ) (δ * δ) (four ρ m δ q) (cross_small m δ g) (square_small m δ g)
           where
             four : (ρ m δ : ℕ) → m ≡ 2 * ρ + δ → 4 * (ρ * ρ) + 2 * (m * δ) ≡ m * m + δ * δ
             four ρ m δ q = rw q (omega arith)
@@ -201,7 +201,7 @@ length_of : (a b c ρ : ℕ) → Room a b c → RootErr (sum3 a b c) ρ → Leng
 length_of a b c ρ r e =
     let D = norm a b c in
     let n = sum3 a b c in
-    let s = sum3-err a b c (room-norm a b c r) in
+    let s = sum3_err a b c (room-norm a b c r) in
     let half : D ≤ 2 * (n * U) = halves D (n * U) s.1 in
     let up_to_lem = le_trans r.0 (le_trans (mul-le-mul_left (2 ^ 80) half) (le_of_eq (shift (n * U)))) in
     let swap = mul_comm (144115188075855873 * 144115188075855873) (2 ^ 81) in
@@ -427,7 +427,7 @@ unit_of v fx fy fz r =
     let c = mag v.z in
     let D = norm a b c in
     let n = sum3 a b c in
-    let s = sum3-err a b c (room-norm a b c r) in
+    let s = sum3_err a b c (room-norm a b c r) in
     let n0 : 0 < n = pos_of n U D (halves D (n * U) s.1) (pos_D D r.0) in
     let nO : n < O = lt_of_le_of_lt (le_of_mul-le-mul_right {k = U} (sum_room (n * U) D U s.0 r.1) U_pos) room_O in
     let y = dot v v in

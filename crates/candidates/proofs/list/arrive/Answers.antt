@@ -1,4 +1,4 @@
--- `candidates::list::arrive` meets its contract: what its stages give is the definition's (`refused_leaves`, `arrival-leaves`).
+-- `candidates::list::arrive` meets its contract: what its stages give is the definition's (`refused_leaves`, `arrival_leaves`).
 use Prim.Native.Nat.{ℕ, ◌<◌}
 use native.Mathlib.Omega.{arith}
 use mathlib.Core.Path.{◌≡◌, sym, ap, ◌∙◌}
@@ -6,7 +6,7 @@ use mathlib.Core.List.{List}
 use lib.ListN.{length}
 use Rattle.numbers.specs.Refusal.{verdict}
 use Rattle.candidates.specs.Memory.{memory, arrival, check, listed_ids, answer}
-use Rattle.candidates.proofs.Calls.{refused_leaves, looked_at, room, arrival-leaves}
+use Rattle.candidates.proofs.Calls.{refused_leaves, looked_at, room, arrival_leaves}
 use Rattle.candidates.proofs.list.arrive.Goals as goal
 
 pub check_arrival-check-requires : goal.check_arrival-check-requires
@@ -46,4 +46,4 @@ returns c =
     let v =
     sym (ap verdict c.in_default.is) ∙ c.check_arrival-check.ensures
     ∙ ap (λ (ids : List ℕ). check ids (arrival a.c)) (looked_at _ a.count.now a.ids.now c.in_use-n.ensures l) in
-    (v, rw (c.insert.ensures.0, c.insert.ensures.1) (arrival-leaves m (record { ids = l; densities = d }) c.in_use-n.result c.in_use-n.ensures a.c v))
+    (v, rw (c.insert.ensures.0, c.insert.ensures.1) (arrival_leaves m (record { ids = l; densities = d }) c.in_use-n.result c.in_use-n.ensures a.c v))

@@ -1,10 +1,10 @@
--- `candidates::list::depart` meets its contract: what its stages give is the definition's (`departs`, `departure-leaves`, `refused_leaves`).
+-- `candidates::list::depart` meets its contract: what its stages give is the definition's (`departs`, `departure_leaves`, `refused_leaves`).
 use native.Mathlib.Omega.{arith}
 use mathlib.Core.Path.{◌≡◌, sym, ◌∙◌}
 use lib.ListN.{length}
 use Rattle.numbers.specs.Refusal.{verdict, number}
 use Rattle.candidates.specs.Memory.{memory, departure, listed_ids, answer}
-use Rattle.candidates.proofs.Calls.{refused_leaves, departs, departs-not, departure-leaves}
+use Rattle.candidates.proofs.Calls.{refused_leaves, departs, departs_not, departure_leaves}
 use Rattle.candidates.proofs.list.depart.Goals as goal
 
 pub find-at-requires : goal.find-at-requires
@@ -26,7 +26,7 @@ returns-then-at-n c =
     let l : length a.ids.now ≡ 64 = omega arith in
     let d : length a.densities.now ≡ 64 = omega arith in
     let v = departs n a.count.now a.ids.now a.id c.in_use-n.ensures l (omega (arith, c.find-at.ensures)) in
-    let e = departure-leaves m (record { ids = l; densities = d }) n c.in_use-n.ensures a.id c.find-at.result c.find-at.ensures (omega arith) v in
+    let e = departure_leaves m (record { ids = l; densities = d }) n c.in_use-n.ensures a.id c.find-at.result c.find-at.ensures (omega arith) v in
     (v, rw (c.remove.ensures.0, c.remove.ensures.1) e)
 
 pub returns : goal.returns
@@ -35,5 +35,5 @@ returns c =
     let a = c.args in
     let m = memory a.count.now a.ids.now a.densities.now in
     let l : length a.ids.now ≡ 64 = omega arith in
-    let v = departs-not c.in_use-n.result a.count.now a.ids.now a.id c.in_use-n.ensures l (omega (arith, c.find-at.ensures)) in
+    let v = departs_not c.in_use-n.result a.count.now a.ids.now a.id c.in_use-n.ensures l (omega (arith, c.find-at.ensures)) in
     (v, refused_leaves m (departure a.id) 12 v)

@@ -2,7 +2,7 @@
 use denote.Floats.{passes}
 use lib.Ieee.{binary64, fits}
 use Rattle.floats.specs.Float.{abs}
-use Rattle.floats.proofs.float.FloatBits.{is_nan_lem, not_nan, abs-bits, abs-not-nan}
+use Rattle.floats.proofs.float.FloatBits.{is_nan_lem, not_nan, abs-bits, abs_not_nan}
 use Rattle.floats.proofs.float.abs.Goals as goal
 
 pub returns-then-x : goal.returns-then-x
@@ -14,7 +14,7 @@ unfolding abs
 float_to_bits-result c = not_nan c.args.x c.if-x.false
 
 pub float_from_bits-result : goal.float_from_bits-result
-float_from_bits-result c = abs-not-nan c.args.x (passes (fits binary64 c.args.x) c.well_formed.0.1) (not_nan c.args.x c.if-x.false)
+float_from_bits-result c = abs_not_nan c.args.x (passes (fits binary64 c.args.x) c.well_formed.0.1) (not_nan c.args.x c.if-x.false)
 
 pub returns : goal.returns
 unfolding abs

@@ -1,7 +1,7 @@
 -- `floats::float::is_infinite` meets its contract: of the absolute value, by cases of the value.
 use lib.Ieee.{of_bits}
 use Rattle.floats.proofs.square_root.RootBits.{inf_not_nan}
-use Rattle.floats.proofs.float.FloatBits.{infinite-test}
+use Rattle.floats.proofs.float.FloatBits.{infinite_test}
 use Rattle.floats.proofs.float.is_infinite.Goals as goal
 
 pub float_from_bits-result : goal.float_from_bits-result
@@ -10,4 +10,4 @@ float_from_bits-result c = inf_not_nan
 
 pub returns : goal.returns
 unfolding of_bits
-returns c = rw c.abs.ensures (infinite-test c.args.x)
+returns c = rw c.abs.ensures (infinite_test c.args.x)

@@ -2,7 +2,7 @@
 use denote.Floats.{passes}
 use lib.Ieee.{binary64, fits}
 use Rattle.floats.specs.Float.{sign_bit}
-use Rattle.floats.proofs.float.FloatBits.{is_nan_lem, not_nan, sign-test}
+use Rattle.floats.proofs.float.FloatBits.{is_nan_lem, not_nan, sign_test}
 use Rattle.floats.proofs.float.is_sign_negative.Goals as goal
 
 pub returns-then-x : goal.returns-then-x
@@ -14,4 +14,4 @@ unfolding sign_bit
 float_to_bits-result c = not_nan c.args.x c.if-x.false
 
 pub returns : goal.returns
-returns c = sign-test c.args.x (passes (fits binary64 c.args.x) c.well_formed.0.1) (not_nan c.args.x c.if-x.false)
+returns c = sign_test c.args.x (passes (fits binary64 c.args.x) c.well_formed.0.1) (not_nan c.args.x c.if-x.false)

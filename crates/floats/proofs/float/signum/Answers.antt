@@ -3,7 +3,7 @@ use native.Mathlib.Omega.{arith}
 use denote.Floats.{passes}
 use lib.Ieee.{binary64, fits}
 use Rattle.floats.specs.Float.{signum}
-use Rattle.floats.proofs.float.FloatBits.{is_nan_lem, not_nan, sign-digit, signum-bits, signum-not-nan}
+use Rattle.floats.proofs.float.FloatBits.{is_nan_lem, not_nan, sign-digit, signum-bits, signum_not_nan}
 use Rattle.floats.proofs.float.signum.Goals as goal
 
 pub returns-then-x : goal.returns-then-x
@@ -23,7 +23,7 @@ unfolding signum
 overflow_add-result c = record { fits = omega (arith, sign-digit c.args.x (passes (fits binary64 c.args.x) c.well_formed.0.1)) }
 
 pub float_from_bits-result : goal.float_from_bits-result
-float_from_bits-result c = signum-not-nan c.args.x (passes (fits binary64 c.args.x) c.well_formed.0.1) (not_nan c.args.x c.if-x.false)
+float_from_bits-result c = signum_not_nan c.args.x (passes (fits binary64 c.args.x) c.well_formed.0.1) (not_nan c.args.x c.if-x.false)
 
 pub returns : goal.returns
 returns c = signum-bits c.args.x (passes (fits binary64 c.args.x) c.well_formed.0.1) (not_nan c.args.x c.if-x.false)

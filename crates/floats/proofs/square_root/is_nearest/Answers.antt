@@ -1,9 +1,9 @@
--- `is_nearest` meets its contract, by `nearest_by-parts` of RootGuess, and no product or sum in it wraps.
+-- `is_nearest` meets its contract, by `nearest_by_parts` of RootGuess, and no product or sum in it wraps.
 use mathlib.Core.Path.{refl}
 use native.Mathlib.Omega.{arith}
 use lib.Dec.{leb→le}
 use Prim.Native.Nat.{◌+◌, ◌-◌, ◌*◌, ◌/◌, ◌^◌, ◌%◌}
-use Rattle.floats.proofs.square_root.RootGuess.{ab-le, aa_le, bb_le, nearest_by-parts}
+use Rattle.floats.proofs.square_root.RootGuess.{ab-le, aa_le, bb_le, nearest_by_parts}
 use Rattle.floats.proofs.square_root.is_nearest.Goals as goal
 
 pub overflow_mul-aa : goal.overflow_mul-aa
@@ -31,4 +31,4 @@ returns c =
     let k = j * 2 ^ 24 - a * b in
     let w = k * 2 ^ 28 + q in
     let t = b * b + 2 ^ 55 in
-    λ h. nearest_by-parts m q j k (omega arith) (omega arith) w t refl refl (omega arith) (leb→le (w - t) (2 * q) h)
+    λ h. nearest_by_parts m q j k (omega arith) (omega arith) w t refl refl (omega arith) (leb→le (w - t) (2 * q) h)

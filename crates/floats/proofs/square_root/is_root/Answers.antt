@@ -6,7 +6,7 @@ use lib.Ieee.{binary64, to_bits, of_bits}
 use lib.Ieee.Bits.{of_bits-to_bits}
 use Rattle.floats.proofs.float.FloatBits.{not_nan}
 use Rattle.floats.proofs.square_root.RootBits.{RootFrom, nearest-pattern}
-use Rattle.floats.proofs.square_root.RootOperand.{root-scaled}
+use Rattle.floats.proofs.square_root.RootOperand.{root_scaled}
 use Rattle.floats.proofs.square_root.is_root.Goals as goal
 
 pub returns-then-g : goal.returns-then-g
@@ -27,6 +27,6 @@ returns c =
     let q = p % 2 ^ 52 + 2 ^ 52 in
     let same : (a.h - 26) * 2 ^ 52 + q ≡ p = omega arith in
     λ t.
-    root-scaled a g
+    root_scaled a g
     (subst (RootFrom a.m a.h) (ap (of_bits binary64) same ∙ of_bits-to_bits binary64 g c.requires.0)
     (nearest-pattern q a.m a.h (c.is_nearest.ensures t) r.0 r.1 r.2 r.3))

@@ -2,7 +2,7 @@
 use Prim.Native.Nat.{◌+◌, ◌-◌, ◌*◌, ◌^◌, ◌<◌}
 use native.Mathlib.Omega.{arith}
 use Rattle.floats.proofs.square_root.RootBits.{within, clean, nearest-pattern}
-use Rattle.floats.proofs.square_root.RootOperand.{root-scaled}
+use Rattle.floats.proofs.square_root.RootOperand.{root_scaled}
 use Rattle.floats.proofs.square_root.root_of.Goals as goal
 
 -- its digits are 53 at most
@@ -21,4 +21,4 @@ pub returns : goal.returns
 returns c =
     let a = c.args.a in
     let p = c.requires in
-    root-scaled a _ (nearest-pattern c.nearest.result a.m a.h c.nearest.ensures p.0 p.1 p.2 p.3)
+    root_scaled a _ (nearest-pattern c.nearest.result a.m a.h c.nearest.ensures p.0 p.1 p.2 p.3)

@@ -6,7 +6,7 @@ use native.Mathlib.Omega.{arith}
 use lib.Dec.{lit≤}
 use lib.Ieee.{binary64, to_bits}
 use Rattle.floats.specs.RootSteps.{Placed}
-use Rattle.floats.proofs.square_root.RootOperand.{opened, normal-scaled, subnormal_scaled}
+use Rattle.floats.proofs.square_root.RootOperand.{opened, normal_scaled, subnormal_scaled}
 use denote.Floats.{passes}
 use Rattle.floats.proofs.square_root.scale.Goals as goal
 
@@ -37,4 +37,4 @@ pub placed-requires-2 : goal.placed-requires-2
 placed-requires-2 c = omega (arith, (opened c.args.x c.requires (passes _ c.well_formed.0.1)).0.field)
 
 pub returns : goal.returns
-returns c = normal-scaled c.args.x c.placed-2.result c.requires (passes _ c.well_formed.0.1) c.if-f-eq0.false c.placed-2.ensures
+returns c = normal_scaled c.args.x c.placed-2.result c.requires (passes _ c.well_formed.0.1) c.if-f-eq0.false c.placed-2.ensures

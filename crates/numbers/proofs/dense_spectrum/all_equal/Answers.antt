@@ -1,7 +1,7 @@
 -- `numbers::dense_spectrum::all_equal` meets its contract: what was found of the entries before i decides together with the rest. The measure is what is left of the list.
 use Rattle.std.proofs.Common.{sym, arith}
 use lib.Ieee.{nan}
-use Rattle.numbers.proofs.dense_spectrum.Every.{rest-start, rest-next, rest-ends}
+use Rattle.numbers.proofs.dense_spectrum.Every.{rest-start, rest-next, rest_ends}
 use Rattle.numbers.proofs.dense_spectrum.all_equal.Goals as goal
 
 pub loop-i-init : goal.loop-i-init
@@ -11,4 +11,4 @@ pub loop-i-preserved : goal.loop-i-preserved
 loop-i-preserved c = let l = c.loop-i in rest-next _ _ l.i l.ok nan l.invariant (omega arith)
 
 pub returns : goal.returns
-returns c = let l = c.loop-i in sym (rest-ends _ _ l.i l.ok l.invariant (omega arith))
+returns c = let l = c.loop-i in sym (rest_ends _ _ l.i l.ok l.invariant (omega arith))

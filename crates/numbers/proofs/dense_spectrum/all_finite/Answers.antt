@@ -2,7 +2,7 @@
 use Rattle.std.proofs.Common.{sym, arith}
 use lib.Ieee.{nan}
 use Rattle.numbers.specs.DenseSpectrum.{all_finite}
-use Rattle.numbers.proofs.dense_spectrum.Every.{rest-start, rest-next, rest-ends}
+use Rattle.numbers.proofs.dense_spectrum.Every.{rest-start, rest-next, rest_ends}
 use Rattle.numbers.proofs.dense_spectrum.all_finite.Goals as goal
 
 pub loop-i-init : goal.loop-i-init
@@ -14,4 +14,4 @@ loop-i-preserved c = let l = c.loop-i in rw c.is_finite-ok.ensures (rest-next _ 
 
 pub returns : goal.returns
 unfolding all_finite
-returns c = let l = c.loop-i in sym (rest-ends _ _ l.i l.ok l.invariant (omega arith))
+returns c = let l = c.loop-i in sym (rest_ends _ _ l.i l.ok l.invariant (omega arith))

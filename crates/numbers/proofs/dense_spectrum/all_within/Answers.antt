@@ -2,7 +2,7 @@
 use Rattle.std.proofs.Common.{sym, arith}
 use lib.Ieee.{nan}
 use Rattle.numbers.specs.DenseSpectrum.{all_within}
-use Rattle.numbers.proofs.dense_spectrum.Every.{rest-start, rest-next, rest-ends}
+use Rattle.numbers.proofs.dense_spectrum.Every.{rest-start, rest-next, rest_ends}
 use Rattle.numbers.proofs.dense_spectrum.all_within.Goals as goal
 
 pub loop-i-init : goal.loop-i-init
@@ -14,4 +14,4 @@ loop-i-preserved c = let l = c.loop-i in rw c.within-ok.ensures (rest-next _ _ l
 
 pub returns : goal.returns
 unfolding all_within
-returns c = let l = c.loop-i in sym (rest-ends _ _ l.i l.ok l.invariant (omega arith))
+returns c = let l = c.loop-i in sym (rest_ends _ _ l.i l.ok l.invariant (omega arith))

@@ -4,7 +4,7 @@ use Rattle.std.proofs.Common.{sym}
 use lib.Ieee.{of_bits}
 use Rattle.optics.specs.Bxdf.{rest}
 use Rattle.optics.proofs.SharedTerms.{f_at_from, dielectric_from_snell_lem, index_from-known, k_from-known}
-use Rattle.path.proofs.OnSurface.{left_from, glass-lost, glass-sent}
+use Rattle.path.proofs.OnSurface.{left_from, glass_lost, glass_sent}
 use Rattle.path.proofs.bsdf.on_glass.Goals as goal
 
 pub returns-in_default : goal.returns-in_default
@@ -13,7 +13,7 @@ returns-in_default c =
     let cos = c.dot-wo_dot_wh.ensures in
     let snell = c.new-snell.ensures in
     rw (c.requires.0, c.lost.ensures)
-    (sym (glass-lost _ _ _ _ _ c.args.b _ (left_from _ _ _ _ c.requires.1 _ c.left_on_glass-lambda.ensures) _ c.leading_sample-leading.ensures _
+    (sym (glass_lost _ _ _ _ _ c.args.b _ (left_from _ _ _ _ c.requires.1 _ c.left_on_glass-lambda.ensures) _ c.leading_sample-leading.ensures _
     (index_from-known _ _ _ _ c.requires.1 _ c.glass_constants_at-at.ensures.0) _ (k_from-known _ _ _ _ _ c.requires.1 _ c.glass_constants_at-at.ensures.1) _ c.new-uvw.ensures _
     c.to_local-wo.ensures _ c.normal-wh.ensures _ (f_at_from _ _ _ _ _ cos _ snell _ c.fresnel_from-f.ensures) _
     (dielectric_from_snell_lem _ _ _ _ _ _ cos _ snell _ c.sample_from.ensures)
@@ -28,7 +28,7 @@ returns c =
     let cos = c.dot-wo_dot_wh.ensures in
     let snell = c.new-snell.ensures in
     rw (c.requires.0, c.sent.ensures, c.to_world.ensures, c.density_of.ensures, c.weighed.ensures, c.weights.ensures, c.glass_filter-filter.ensures, c.seen_on_glass-seen.ensures.0, c.seen_on_glass-seen.ensures.1)
-    (sym (glass-sent _ _ _ _ _ c.args.b _ (left_from _ _ _ _ c.requires.1 _ c.left_on_glass-lambda.ensures) _ c.leading_sample-leading.ensures _
+    (sym (glass_sent _ _ _ _ _ c.args.b _ (left_from _ _ _ _ c.requires.1 _ c.left_on_glass-lambda.ensures) _ c.leading_sample-leading.ensures _
     (index_from-known _ _ _ _ c.requires.1 _ c.glass_constants_at-at.ensures.0) _ (k_from-known _ _ _ _ _ c.requires.1 _ c.glass_constants_at-at.ensures.1) _ c.new-uvw.ensures _
     c.to_local-wo.ensures _ c.normal-wh.ensures _ (f_at_from _ _ _ _ _ cos _ snell _ c.fresnel_from-f.ensures) _
     (dielectric_from_snell_lem _ _ _ _ _ _ cos _ snell _ c.sample_from.ensures) _ _

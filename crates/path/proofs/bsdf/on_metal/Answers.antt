@@ -3,7 +3,7 @@ use Rattle.std.proofs.Common.{sym}
 use Rattle.optics.specs.Surface.{medium}
 use Rattle.optics.proofs.SharedTerms.{f_metal_from_lem}
 use Rattle.path.specs.Answer.{outcome}
-use Rattle.path.proofs.OnSurface.{metal_backface, metal-lost, metal-sent}
+use Rattle.path.proofs.OnSurface.{metal_backface, metal_lost, metal_sent}
 use Rattle.path.proofs.bsdf.on_metal.Goals as goal
 
 pub returns-then-b : goal.returns-then-b
@@ -12,7 +12,7 @@ returns-then-b c outer = rw (c.requires.0, c.lost.ensures) (sym (metal_backface 
 pub returns-in_default : goal.returns-in_default
 returns-in_default c outer =
     rw (c.requires.0, c.lost-in_default.ensures)
-    (sym (metal-lost _ _ _ _ _ c.args.b c.if-b.false _ c.new-uvw.ensures _ c.to_local-wo.ensures _
+    (sym (metal_lost _ _ _ _ _ c.args.b c.if-b.false _ c.new-uvw.ensures _ c.to_local-wo.ensures _
     c.normal-wh.ensures _ c.sample_from.ensures c.in_default.not-Direction))
 
 pub seen_on_metal-seen-requires : goal.seen_on_metal-seen-requires
@@ -22,5 +22,5 @@ pub returns : goal.returns
 unfolding outcome
 returns c outer =
     rw (c.requires.0, c.to_world.ensures, c.density_of.ensures, c.weighed.ensures, c.weights.ensures, c.metal_filter-filter.ensures, c.f_on_metal.ensures, c.requires.1, f_metal_from_lem _ _ (medium outer), c.seen_on_metal-seen.ensures.0, c.seen_on_metal-seen.ensures.1)
-    (sym (metal-sent _ _ _ _ _ c.args.b c.if-b.false _ c.new-uvw.ensures _ c.to_local-wo.ensures _
+    (sym (metal_sent _ _ _ _ _ c.args.b c.if-b.false _ c.new-uvw.ensures _ c.to_local-wo.ensures _
     c.normal-wh.ensures _ c.sample_from.ensures _ _ c.in-Direction.is))
