@@ -15,7 +15,7 @@ pub record SameAnswers (m : Microsurface) : Type 0 where
   pub g1_of : (wo wh : Vec3) → g1 m wo wh ≡ g1 (in_air m) wo wh
   pub g_of : (wo wi wh : Vec3) → g m wo wi wh ≡ g (in_air m) wo wi wh
   pub d_of : (wh : Vec3) → d m wh ≡ d (in_air m) wh
-  pub disney_diffuse_lem : (cosWo cosWi cosWh : Float) → disney_diffuse m cosWo cosWi cosWh ≡ disney_diffuse (in_air m) cosWo cosWi cosWh
+  pub disney_diffuse_lem : (cos_wo cos_wi cos_wh : Float) → disney_diffuse m cos_wo cos_wi cos_wh ≡ disney_diffuse (in_air m) cos_wo cos_wi cos_wh
   pub f_at_lem : (wo wh : Vec3) (wl : Float) → f_at m wo wh wl ≡ f_at (in_air m) wo wh wl
   pub f_of : (wo wh : Vec3) (wl : Color) → f m wo wh wl ≡ f (in_air m) wo wh wl
   pub sample_normal_lem : (wo : Vec3) (disk c s : Float) → sample_normal m wo disk c s ≡ sample_normal (in_air m) wo disk c s

@@ -65,8 +65,8 @@ d m wh = check_surface m then check_direction wh ▷ given (Facets.d m.roughness
 
 -- any floats, so it refuses only for its surface
 unfoldable pub disney_diffuse : Microsurface → Float → Float → Float → Answer Float
-disney_diffuse m cosWo cosWi cosWh =
-    check_surface m ▷ given (Facets.disney_diffuse m.roughness cosWo cosWi cosWh)
+disney_diffuse m cos_wo cos_wi cos_wh =
+    check_surface m ▷ given (Facets.disney_diffuse m.roughness cos_wo cos_wi cos_wh)
 
 -- ---- Fresnel
 unfoldable pub f_at : Microsurface → Vec3 → Vec3 → Float → Answer Float

@@ -57,9 +57,9 @@ g_over_g1_at_lem a wo wi wh = rw (chi_pass_lem wo wh) (go (chi_pass wo wh))
     go false = refl
 
 -- ---- Snell's law; c is the cosine that is handed on, and s the law
-pub fr_real_from_lem : (cosO eta : Float) → fr_real_from (snell cosO eta) cosO ≡ fr_real cosO eta
+pub fr_real_from_lem : (cos_o eta : Float) → fr_real_from (snell cos_o eta) cos_o ≡ fr_real cos_o eta
 unfolding fr_real_from snell fr_real fr_facing
-fr_real_from_lem cosO eta = rw (sin2_abs cosO (index_from cosO eta))
+fr_real_from_lem cos_o eta = rw (sin2_abs cos_o (index_from cos_o eta))
 
 pub f_at_from : (wo wh : Vec3) (eta k : Float) → (c : Float) → c ≡ dot wo wh → (s : Snell) → s ≡ snell c eta
     → (F : Float) → F ≡ fresnel_from s c eta k → F ≡ f_at wo wh eta k

@@ -34,16 +34,16 @@ reflect wo n = let wi = mirrored wo n in cond (same_hemisphere wi wo) (direction
 
 -- ---- bend (Walter et al. 2007, eq. 40): -wo / η + (cos θo / η - cos θi) n, on the other side, n being the normal on wo's side
 unfoldable pub bent : Float → Float → Float → Vec3 → Vec3 → Vec3
-bent eta cosO cos_i wo n = add (div_float (negate wo) eta) (float_mul (cosO ⊘ eta ⊖ cos_i) n)
+bent eta cos_o cos_i wo n = add (div_float (negate wo) eta) (float_mul (cos_o ⊘ eta ⊖ cos_i) n)
 
 unfoldable pub across_only : Vec3 → Vec3 → Outgoing
 across_only wo wi = cond (same_hemisphere wi wo) none (direction wi)
 
 -- against the index and the normal on wo's side
 unfoldable pub refract_facing : Float → Float → Vec3 → Vec3 → Outgoing
-refract_facing eta cosO wo n =
-    let sin2 = sin2_i cosO eta in
-    cond (is_total sin2) total (across_only wo (bent eta cosO (cos_i sin2) wo n))
+refract_facing eta cos_o wo n =
+    let sin2 = sin2_i cos_o eta in
+    cond (is_total sin2) total (across_only wo (bent eta cos_o (cos_i sin2) wo n))
 
 unfoldable pub refract : Float → Vec3 → Vec3 → Outgoing
 refract eta wo n =

@@ -71,13 +71,13 @@ abbrev pub half : Float
 half = fin false 1 (negsuc 0)
 
 unfoldable pub fd90 : Float → Float → Float
-fd90 roughness2 cosWh = half ⊗ roughness2 ⊕ f2 ⊗ powi2 cosWh ⊗ roughness2
+fd90 roughness2 cos_wh = half ⊗ roughness2 ⊕ f2 ⊗ powi2 cos_wh ⊗ roughness2
 
 unfoldable pub energy_factor : Float → Float
 energy_factor roughness2 = f1 ⊕ roughness2 ⊗ (f1 ⊘ decimal 151 100 ⊖ f1)
 
 unfoldable pub disney_diffuse : Vec2 → Float → Float → Float → Float
-disney_diffuse a cosWo cosWi cosWh =
+disney_diffuse a cos_wo cos_wi cos_wh =
     let roughness2 = powi2 a.x in
-    let f₉₀ = fd90 roughness2 cosWh in
-    f_schlick f1 f₉₀ cosWo ⊗ f_schlick f1 f₉₀ cosWi ⊗ energy_factor roughness2
+    let f₉₀ = fd90 roughness2 cos_wh in
+    f_schlick f1 f₉₀ cos_wo ⊗ f_schlick f1 f₉₀ cos_wi ⊗ energy_factor roughness2

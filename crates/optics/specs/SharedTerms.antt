@@ -14,50 +14,50 @@ use Rattle.optics.specs.Fresnel.{f_at, index_from, sin2_i, is_total, cos_i, unpo
 use Rattle.optics.specs.Bxdf.{Outgoing, total, reflect, bent, across_only, Scattered, branch, reflects}
 pub use Rattle.optics.specs.declared.microfacet.Snell.{Snell}
 
--- ---- from the sine of the polar angle: cosPhi by the part along x, sinPhi by that along y; `pole` where the sine is 0
+-- ---- from the sine of the polar angle: cos_phi by the part along x, sin_phi by that along y; `pole` where the sine is 0
 unfoldable pub azimuth : Float → Float → Float → Float
 azimuth part sin pole = cond (eq sin f0) pole (clamp f_1 f1 (part ⊘ sin))
 
 -- ---- from wo · wh
 unfoldable pub chi_pass_at : Float → Vec3 → Vec3 → Bool
-chi_pass_at woDotWh wo wh = lt epsilon (signum (cos_theta wh) ⊗ woDotWh ⊗ cos_theta wo)
+chi_pass_at wo_dot_wh wo wh = lt epsilon (signum (cos_theta wh) ⊗ wo_dot_wh ⊗ cos_theta wo)
 
 -- ---- from Λ(wo) and wo · wh
 unfoldable pub g1_at : Float → Float → Vec3 → Vec3 → Float
-g1_at lambdaWo woDotWh wo wh = masked (chi_pass_at woDotWh wo wh) (f1 ⊕ lambdaWo)
+g1_at lambda_wo wo_dot_wh wo wh = masked (chi_pass_at wo_dot_wh wo wh) (f1 ⊕ lambda_wo)
 
 -- G and G1 have χ⁺ and 1 + Λ(wo) in common
 unfoldable pub g_over_g1_at : Vec2 → Float → Float → Vec3 → Vec3 → Vec3 → Float
-g_over_g1_at a lambdaWo woDotWh wo wi wh =
-    let seen = f1 ⊕ lambdaWo in
-    cond (chi_pass_at woDotWh wo wh)
+g_over_g1_at a lambda_wo wo_dot_wh wo wi wh =
+    let seen = f1 ⊕ lambda_wo in
+    cond (chi_pass_at wo_dot_wh wo wh)
     (cond (eq (f1 ⊘ seen) f0) f0 (f1 ⊘ (seen ⊕ lambda a wi) ⊘ (f1 ⊘ seen)))
     f0
 
 unfoldable pub sample_normal_pdf_at : Vec2 → Float → Float → Vec3 → Vec3 → Float
-sample_normal_pdf_at a lambdaWo woDotWh wh wo =
-    max (g1_at lambdaWo woDotWh wo wh ⊗ d a wh ⊗ abs woDotWh ⊘ abs (cos_theta wo)) f0
+sample_normal_pdf_at a lambda_wo wo_dot_wh wh wo =
+    max (g1_at lambda_wo wo_dot_wh wo wh ⊗ d a wh ⊗ abs wo_dot_wh ⊘ abs (cos_theta wo)) f0
 
 -- ---- from Snell's law, which Fresnel's term and the bend have in common: the index against wo's side, sin² θi and cos θi, by cos θo, which is wo · wh
 unfoldable pub snell : Float → Float → Snell
-snell cosO eta = let index = index_from cosO eta in record { eta = index; sin2 = sin2_i cosO index; cos = cos_i (sin2_i cosO index) }
+snell cos_o eta = let index = index_from cos_o eta in record { eta = index; sin2 = sin2_i cos_o index; cos = cos_i (sin2_i cos_o index) }
 
 unfoldable pub fr_real_from : Snell → Float → Float
-fr_real_from s cosO = cond (is_total s.sin2) f1 (unpolarized s.eta (abs cosO) s.cos)
+fr_real_from s cos_o = cond (is_total s.sin2) f1 (unpolarized s.eta (abs cos_o) s.cos)
 
 unfoldable pub fresnel_from : Snell → Float → Float → Float → Float
-fresnel_from s cosO eta k = cond (eq k f0) (cond (eq eta f0) f0 (fr_real_from s cosO)) (fr_complex cosO eta k)
+fresnel_from s cos_o eta k = cond (eq k f0) (cond (eq eta f0) f0 (fr_real_from s cos_o)) (fr_complex cos_o eta k)
 
 unfoldable pub refract_facing_from : Snell → Float → Vec3 → Vec3 → Outgoing
-refract_facing_from s cosO wo n = cond (is_total s.sin2) total (across_only wo (bent s.eta cosO s.cos wo n))
+refract_facing_from s cos_o wo n = cond (is_total s.sin2) total (across_only wo (bent s.eta cos_o s.cos wo n))
 
 unfoldable pub refract_from : Snell → Float → Vec3 → Vec3 → Outgoing
-refract_from s cosO wo n =
-    cond (lt cosO f0) (refract_facing_from s (neg cosO) wo (negate n)) (refract_facing_from s cosO wo n)
+refract_from s cos_o wo n =
+    cond (lt cos_o f0) (refract_facing_from s (neg cos_o) wo (negate n)) (refract_facing_from s cos_o wo n)
 
 unfoldable pub dielectric_from_snell : Snell → Float → Float → Float → Vec3 → Vec3 → Scattered
-dielectric_from_snell s cosO F u wo wh =
-    cond (reflects u F) (branch true (reflect wo wh)) (branch false (refract_from s cosO wo wh))
+dielectric_from_snell s cos_o F u wo wh =
+    cond (reflects u F) (branch true (reflect wo wh)) (branch false (refract_from s cos_o wo wh))
 
 -- ---- from the step of the spectra and whether the outer one is constant: the index of glass
 unfoldable pub outer_from : Bool → Float → List Float → Float → Float

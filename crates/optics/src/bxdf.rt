@@ -8,7 +8,7 @@ pub mod dielectric;
 
 ghost use Rattle.std.specs.Prelude.{◌≡◌};
 ghost use Rattle.optics.specs.Bxdf.{reflected, refracted, reflect, refract};
-ghost use Rattle.optics.specs.Density.{on_zSide, at_z, pdf_of};
+ghost use Rattle.optics.specs.Density.{on_z_side, at_z, pdf_of};
 ghost use Rattle.optics.specs.SharedTerms.{refract_facing_from, refract_from};
 
 // What a mirror answers.
@@ -98,7 +98,7 @@ pub fn pdf(kind: Kind, mfd: Ggx, wo: Vec3, wi: Vec3, reflection: bool, eta: f64,
 
 // orient MS normal to same side as geometric normal
 fn on_z_side(wh: Vec3) -> Vec3
-    ensures { result ≡ on_zSide wh }
+    ensures { result ≡ on_z_side wh }
 {
     if wh.z < 0.0 {
         return wh.negate();

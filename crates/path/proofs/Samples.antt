@@ -19,7 +19,7 @@ use Rattle.optics.specs.Surface.{Outside, medium, Microsurface, roughness_min, i
 use Rattle.optics.specs.Facets.{half, is_delta}
 use Rattle.optics.specs.Fresnel.{sin2_i, is_total, cos_i, fresnel, f_at}
 use Rattle.optics.specs.Bxdf.{scattered, direction, mirrored, reflect, bent, across_only, refract_facing, refract, branch, conductor_normal, conductor_from, is_smooth, dielectric_normal, rest, reflects, dielectric_from}
-use Rattle.optics.specs.Density.{on_zSide, at_z, conductor_half, conductor_pdf_from, conductor_pdf, eta_ratio, dielectric_half, is_discarded, reflected_pdf, passed_pdf, dielectric_pdf_from, dielectric_pdf, pdf_of, pdf}
+use Rattle.optics.specs.Density.{on_z_side, at_z, conductor_half, conductor_pdf_from, conductor_pdf, eta_ratio, dielectric_half, is_discarded, reflected_pdf, passed_pdf, dielectric_pdf_from, dielectric_pdf, pdf_of, pdf}
 use Rattle.numbers.specs.Refusal.{◌then◌, accepted, refuse}
 use Rattle.numbers.specs.Checked.{check_direction}
 use Rattle.optics.specs.Check.{check_spectra, check_surface, is_random, check_random, is_circle_pair, check_circle_pair}
@@ -158,7 +158,7 @@ unfolding metal_share is_nan le mul
 metal-weight-half = refl
 
 metal-density : (a : Vec2) → is_delta a ≡ true → conductor_pdf a Z Z' ≡ f1
-unfolding conductor_pdf conductor_pdf_from same_hemisphere cos_theta conductor_half on_zSide at_z normalize length length_squared dot div_float negate V3.add epsilon decimal max is_nan square_root add sub mul div neg lt
+unfolding conductor_pdf conductor_pdf_from same_hemisphere cos_theta conductor_half on_z_side at_z normalize length length_squared dot div_float negate V3.add epsilon decimal max is_nan square_root add sub mul div neg lt
 metal-density a h = rw h
 
 module _ (a : Vec2) (eta k : List Float) (outside : Outside) (delta : is_delta a ≡ true) (eta-1 : Reads (eta_at eta) f1) (k_2 : Reads (k_at eta k) f2) where
@@ -250,11 +250,11 @@ module _ (a : Vec2) (delta : is_delta a ≡ true) where
   smooth_3 = delta
 
   reflected-density : dielectric_pdf a f3 f0 true Z Z ≡ quarter
-  unfolding dielectric_pdf dielectric_pdf_from eta_ratio dielectric_half on_zSide is_discarded reflected_pdf at_z rest f_at normalize length length_squared dot div_float negate V3.add cos_theta epsilon decimal max is_nan square_root add sub mul div neg lt eq
+  unfolding dielectric_pdf dielectric_pdf_from eta_ratio dielectric_half on_z_side is_discarded reflected_pdf at_z rest f_at normalize length length_squared dot div_float negate V3.add cos_theta epsilon decimal max is_nan square_root add sub mul div neg lt eq
   reflected-density = rw (fresnel_3, smooth_3)
 
   passed-density : dielectric_pdf a f3 f0 false Z -Z ≡ three_quarters
-  unfolding dielectric_pdf dielectric_pdf_from eta_ratio dielectric_half on_zSide is_discarded passed_pdf at_z rest f_at normalize length length_squared dot div_float negate V3.add cos_theta epsilon decimal max is_nan square_root add sub mul div neg lt eq
+  unfolding dielectric_pdf dielectric_pdf_from eta_ratio dielectric_half on_z_side is_discarded passed_pdf at_z rest f_at normalize length length_squared dot div_float negate V3.add cos_theta epsilon decimal max is_nan square_root add sub mul div neg lt eq
   passed-density = rw (fresnel_3, smooth_3)
 
 module _ (a : Vec2) (eta k : List Float) (outside : Outside) (delta : is_delta a ≡ true) (same : constant_eta eta outside ≡ true)

@@ -206,12 +206,12 @@ length_of a b c ρ r e =
     let up_to_lem = le_trans r.0 (le_trans (mul-le-mul_left (2 ^ 80) half) (le_of_eq (shift (n * U)))) in
     let swap = mul_comm (144115188075855873 * 144115188075855873) (2 ^ 81) in
     let big-square = le_of_mul-le-mul_right {k = 2 ^ 81} (le_trans (le_of_eq swap) (le_trans big_root up_to_lem)) (lit< tt) in
-    let bigR : 144115188075855872 ≤ e.R = root-big e.R (n * U) e.high big-square in
-    let q = root-sq e.R e.m ρ (n * U) e.low e.high e.cut.0 e.cut.1 e.near bigR in
+    let big_r : 144115188075855872 ≤ e.R = root-big e.R (n * U) e.high big-square in
+    let q = root-sq e.R e.m ρ (n * U) e.low e.high e.cut.0 e.cut.1 e.near big_r in
     let w = twice51 (n * U) D s.0 in
     record {
       near = (both_l (ρ * ρ) (n * U) D (k51 * (n * U)) q.0 s.0 w, both_r (ρ * ρ) (n * U) D (k51 * (n * U)) q.1 s.1 w);
-      above = pos-ρ e.R e.m ρ bigR e.cut.0 e.near;
+      above = pos-ρ e.R e.m ρ big_r e.cut.0 e.near;
     }
   where
     shift : (w : ℕ) → 2 ^ 80 * (2 * w) ≡ w * 2 ^ 81
