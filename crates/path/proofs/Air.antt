@@ -1,4 +1,4 @@
--- Beside an outer spectrum of ones, and beside metal any, a bounce is the same as in air (`bounce_in-air`). What lies outside is read in three places, the checks, the wavelengths that end and the index,
+-- Beside an outer spectrum of ones, and beside metal any, a bounce is the same as in air (`bounce-in_air`). What lies outside is read in three places, the checks, the wavelengths that end and the index,
 -- and each is the same by the law of optics; so is then each definition that a bounce is made of, in their order.
 use Rattle.std.proofs.Common.{◌≡◌, ℕ, zero, suc, Bool, cond, List, refl, ap}
 use lib.Ieee.{Float}
@@ -136,9 +136,9 @@ module _ (m : Microsurface) (h : SameInAir m) where
   many-same input zero = refl
   many-same input (suc n) = rw (many-same input n, at_same input n)
 
-pub bounce_in-air : InAir
+pub bounce-in_air : InAir
 unfolding InAir Optics.InAir
-bounce_in-air s eta k outer beside =
+bounce-in_air s eta k outer beside =
     let m = microsurface s eta k outer in
     let h = in_air_lem s eta k outer beside in
     record { answer = bounce-same m h; reckoned = reckoned-same m h; many = many-same m h }

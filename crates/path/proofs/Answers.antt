@@ -1,4 +1,4 @@
--- Every bounce has an answer of the contract (`answers`), and so every list of steps a run (`run_for-every`): `Demand3` speaks of each list.
+-- Every bounce has an answer of the contract (`answers`), and so every list of steps a run (`run_for_every`): `Demand3` speaks of each list.
 -- An accepted bounce is lost, reflected or passed. A refused one is by a number, and each check's number is that of a `Refusal`.
 use Rattle.std.proofs.Common.{◌≡◌, ℕ, Bool, true, false, List, [], ◌∷◌, refl, ap}
 use Rattle.numbers.specs.Refusal.{number, Verdict, accepted, rejected, ◌then◌, refuse}
@@ -74,10 +74,10 @@ answers p s = go (check_bounce p m b) (known p m b)
     go (rejected n) (why, e) = (B.Refused why p, ap (λ (n : ℕ). refusal n p) e)
 
 -- ---- a run for every list of steps
-pub run_for-every : RunForEvery
+pub run_for_every : RunForEvery
 unfolding RunForEvery StepsF64 steps_of Answered
-run_for-every p [] h = (end, refl)
-run_for-every p (s ∷ steps) h =
+run_for_every p [] h = (end, refl)
+run_for_every p (s ∷ steps) h =
     let a = answers p s in
-    let next = run_for-every (path_of (outcome a.0)) steps h.1 in
+    let next = run_for_every (path_of (outcome a.0)) steps h.1 in
     (bounced s h.0 a.0 a.1 (path_of (outcome a.0)) refl next.0, ap (λ (l : List Step). s ∷ l) next.1)

@@ -26,7 +26,7 @@ use text::{answers, line, output};
 
 // What a density is on a surface: the probability of the one direction that light is scattered into, or
 // per solid angle.
-#[derive(Drop)]
+#[derive(Clone, Copy)]
 enum Measure {
     Probability,
     PerSteradian,
@@ -451,7 +451,7 @@ fn density(text: &[u8], c: Cursor, surfaces: &[f64], out: &mut [u8], n: usize) -
     density_on(surfaces, s.value, reflection.value, &w, out, n)
 }
 
-#[derive(Drop)]
+#[derive(Clone, Copy)]
 enum Command {
     Bounce,
     Density,

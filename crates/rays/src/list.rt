@@ -133,7 +133,7 @@ fn list(
     answers::ended(out, b)
 }
 
-#[derive(Drop)]
+#[derive(Clone, Copy)]
 enum Command {
     Arrive,
     Depart,

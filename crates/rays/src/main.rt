@@ -35,7 +35,7 @@ struct Stream {
 }
 
 // What reading gives.
-#[derive(Drop)]
+#[derive(Clone, Copy)]
 enum Fetched {
     Bytes(usize),
     End,

@@ -3,7 +3,7 @@
 use crate::line::Fault;
 use crate::{faults, line, output};
 
-#[derive(Drop)]
+#[derive(Clone, Copy)]
 pub enum Outcome {
     // no word, or the rest of a line that is skipped
     Nothing,
@@ -13,14 +13,14 @@ pub enum Outcome {
 }
 
 // An answer that was put into the buffer: how many of its bytes are used then, and what it was.
-#[derive(Drop)]
+#[derive(Clone, Copy)]
 pub struct Answered {
     pub used: usize,
     pub outcome: Outcome,
 }
 
 // How many surfaces and paths a job has room for.
-#[derive(Drop)]
+#[derive(Clone, Copy)]
 pub struct Room {
     pub surfaces: u64,
     pub paths: u64,

@@ -4,7 +4,7 @@ ghost use Rattle.std.specs.Prelude.{◌≤◌};
 use crate::words::{byte_at, part};
 
 // Sixteen hexadecimal digits, if they are `ok`.
-#[derive(Drop)]
+#[derive(Clone, Copy)]
 pub struct Digits {
     pub ok: bool,
     pub bits: u64,
