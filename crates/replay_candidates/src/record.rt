@@ -52,8 +52,8 @@ fn density_of(t: &[u8]) -> f64 {
     patterns::of_bits(read.bits)
 }
 
-// Fills the bytes from the file; whether it had as many. A read that fails counts as the file's end: a record
-// that would begin there isn't there, and entries that would stand there are read as 0.
+// Fills the bytes from the file; whether it had as many. Where it ends before, or a read fails, the others stay 0, which
+// is no digit.
 fn fill(file: &mut File, bytes: &mut [u8]) -> bool {
     file.read_exact(bytes).is_ok()
 }
