@@ -3,7 +3,7 @@
 -- m * 2 ^ 52 by their places (`two_high`, `two_low`), what a digit needs (`ready`) and gives (`turn`), and the nearest root at the end (`last_digit`).
 use mathlib.Core.Path.{◌≡◌, refl, sym, ap, ◌∙◌, subst}
 use Prim.Native.Nat.{ℕ, zero, suc, ◌+◌, ◌-◌, ◌*◌, ◌/◌, ◌%◌, ◌^◌, ◌≤◌, ◌<◌}
-use native.Mathlib.Nat.{le_of_eq, lt_of_lt_of_le, mul-mod_left, mul-div_cancel, mul-div-mul_right, div-div-eq-div-mul, div-eq_of_lt, div_one, mul-one, add-zero}
+use native.Mathlib.Nat.{le_of_eq, lt_of_lt_of_le, mul-mod_left, mul-div_cancel, mul-div-mul_right, div-div-eq-div-mul, div-eq_of_lt, div-one, mul-one, add-zero}
 use native.Mathlib.Numerals.{add-one}
 use native.Mathlib.Omega.{arith}
 use mathlib.Core.Bool.{Bool, true, false, not, cond}
@@ -175,7 +175,7 @@ last_digit m c s p h a e =
     let N = m * 2 ^ 52 in
     let v : RootAndRemainder (N / 1) s = rw a (each_digit 53 N 53 (under m h) (omega arith)) in (
       rw a (width 53 N 53 (under m h) (omega arith)),
-      go s.root s.rem N (omega arith) (v.same ∙ div_one N) v.small (ltb s.root s.rem) (ltb→lt s.root s.rem)
+      go s.root s.rem N (omega arith) (v.same ∙ div-one N) v.small (ltb s.root s.rem) (ltb→lt s.root s.rem)
           (nltb→le s.root s.rem) e,
     )
   where
