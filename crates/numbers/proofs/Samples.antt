@@ -6,18 +6,18 @@ use lib.Ieee.{Float, fin, binary32, binary64, add, sub, mul, div, lt, le, eq, of
 use Rattle.floats.specs.Float.{decimal, f0, f1, f2, within}
 use Rattle.floats.specs.SquareRoot.{square_root}
 use Rattle.numbers.specs.DenseSpectrum.{dense_step, fine_step, entry, sample_one, sample_one_at, upper_point, upper_lambda, upper_weight, ceiling, interpolate, is_lookup_wavelength, is_wavelength}
-use Rattle.numbers.specs.Refusal.{refuse, ◌then◌, refused, given, ◌▷◌}
+use Rattle.numbers.specs.Refusal.{refused, given}
 use Rattle.numbers.specs.Checked.{table_holds, check_table, check_lookup, lookup}
 use Rattle.numbers.specs.Samples.{Entries, Dense, Fine, Samples, FineSamples}
 use Rattle.numbers.proofs.dense_spectrum.Spacing.{dense_step_lem, fine_step_lem}
 
 -- ---- a lookup of entries that it accepts, at a wavelength inside the range and outside it
 inside : (values : List Float) (lambda x : Float) → Entries values → is_lookup_wavelength lambda ≡ true → sample_one values lambda ≡ x → lookup values lambda ≡ given x
-unfolding lookup check_table check_lookup refuse ◌then◌ ◌▷◌
+unfolding lookup check_table check_lookup
 inside values lambda x h e s = rw (is_true (table_holds values) h, e, s)
 
 outside : (values : List Float) (lambda : Float) → Entries values → is_lookup_wavelength lambda ≡ false → lookup values lambda ≡ refused 4
-unfolding lookup check_table check_lookup refuse ◌then◌ ◌▷◌
+unfolding lookup check_table check_lookup
 outside values lambda h e = rw (is_true (table_holds values) h, e)
 
 -- ---- a lookup by the step that the number of entries tells

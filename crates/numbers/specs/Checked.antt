@@ -1,30 +1,10 @@
 -- What the functions that refuse answer, by document 01's numbers ("At the counter"). Definitions only.
--- An answer's enum is read as 01's number or the value (`float_answer` and its like), and that is what a promise speaks of.
-use mathlib.Core.{Bool.Bool, Bool.◌&&◌, List.List}
-use Rattle.std.specs.Prelude.{Float}
-pub use Rattle.numbers.specs.declared.checked.{FloatAnswer.FloatAnswer, BoolAnswer.BoolAnswer, Vec3Answer.Vec3Answer, OnbAnswer.OnbAnswer}
-use Rattle.numbers.specs.Refusal.{number, Verdict, refuse, ◌then◌, Answer, refused, given, ◌▷◌}
+use Rattle.std.specs.Prelude.{Bool, ◌&&◌, List, Float}
+use Rattle.numbers.specs.Refusal.{Verdict, refuse, ◌then◌, Answer, given, ◌▷◌}
 use Rattle.numbers.specs.Vec3.{Vec3, is_direction}
-use Rattle.numbers.specs.Onb.{Onb, basis, to_local, to_world}
+use Rattle.numbers.specs.Onb.{basis, to_local, to_world}
 use Rattle.numbers.specs.SphericalUtils.{same_hemisphere}
 use Rattle.numbers.specs.DenseSpectrum.{is_table, all_finite, is_wavelength, is_lookup_wavelength, sample_one}
-
--- ---- the enums, by 01's number and value
-unfoldable pub float_answer : FloatAnswer → Answer Float
-float_answer (FloatAnswer.Refused why) = refused (number why)
-float_answer (FloatAnswer.Given x) = given x
-
-unfoldable pub bool_answer : BoolAnswer → Answer Bool
-bool_answer (BoolAnswer.Refused why) = refused (number why)
-bool_answer (BoolAnswer.Given b) = given b
-
-unfoldable pub vec3_answer : Vec3Answer → Answer Vec3
-vec3_answer (Vec3Answer.Refused why) = refused (number why)
-vec3_answer (Vec3Answer.Given v) = given v
-
-unfoldable pub onb_answer : OnbAnswer → Answer Onb
-onb_answer (OnbAnswer.Refused why) = refused (number why)
-onb_answer (OnbAnswer.Given uvw) = given uvw
 
 -- ---- checks of one argument
 -- a direction: 5
@@ -51,10 +31,10 @@ unfoldable pub lookup : List Float → Float → Answer Float
 lookup values lambda = check_table values then check_lookup lambda ▷ given (sample_one values lambda)
 
 -- ---- what takes one direction, or two
-unfoldable pub of_direction : {A : Type 0} → (Vec3 → A) → Vec3 → Answer A
+abbrev pub of_direction : {A : Type 0} → (Vec3 → A) → Vec3 → Answer A
 of_direction f w = check_direction w ▷ given (f w)
 
-unfoldable pub of_directions : {A : Type 0} → (Vec3 → Vec3 → A) → Vec3 → Vec3 → Answer A
+abbrev pub of_directions : {A : Type 0} → (Vec3 → Vec3 → A) → Vec3 → Vec3 → Answer A
 of_directions f v w = check_direction v then check_direction w ▷ given (f v w)
 
 -- the direction, then the normal

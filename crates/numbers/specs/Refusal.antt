@@ -1,6 +1,6 @@
 -- Refusals by number, document 01's ("At the counter") and 02's from 11 on; checks one after the other, and answers that may be a refusal. Definitions only.
-use Rattle.std.specs.Prelude.{ℕ, Bool, cond}
-pub use Rattle.numbers.specs.declared.refusal.{Refusal.Refusal, Check.Check}
+use Rattle.std.specs.Prelude.{ℕ, Bool, cond, Result, Ok, Err}
+pub use Rattle.numbers.specs.declared.refusal.{Refusal.Refusal}
 use Rattle.numbers.specs.declared.refusal.Refusal.TheVariants.{Roughness, Eta, K, Wavelength, Direction, RandomNumber, CirclePair, Filter, NotFinite, Power, Full, Id, Outer}
 
 -- the number of each ground of refusal
@@ -24,17 +24,18 @@ pub data Verdict : Type 0 where
   accepted : Verdict
   rejected : ℕ → Verdict
 
-unfoldable pub verdict : Check → Verdict
-verdict Check.Accepted = accepted
-verdict (Check.Refused why) = rejected (number why)
+-- what the code answers, by the number alone
+abbrev pub verdict : Result Unit Refusal → Verdict
+verdict (Ok passed) = accepted
+verdict (Err why) = rejected (number why)
 
 -- n, unless the test holds
-unfoldable pub refuse : ℕ → Bool → Verdict
+abbrev pub refuse : ℕ → Bool → Verdict
 refuse n holds = cond holds accepted (rejected n)
 
 -- a check, then the next: the first that fails decides
 infixl 25 ◌then◌
-unfoldable pub ◌then◌ : Verdict → Verdict → Verdict
+abbrev pub ◌then◌ : Verdict → Verdict → Verdict
 accepted then next = next
 rejected n then next = rejected n
 
@@ -43,8 +44,13 @@ pub data Answer (A : Type 0) : Type 0 where
   refused : ℕ → Answer A
   given : A → Answer A
 
+-- what the code answers, by the number alone
+abbrev pub answer : {A : Type 0} → Result A Refusal → Answer A
+answer (Ok x) = given x
+answer (Err why) = refused (number why)
+
 -- the checks, then the answer
 infixr 20 ◌▷◌
-unfoldable pub ◌▷◌ : {A : Type 0} → Verdict → Answer A → Answer A
+abbrev pub ◌▷◌ : {A : Type 0} → Verdict → Answer A → Answer A
 accepted ▷ a = a
 rejected n ▷ a = refused n

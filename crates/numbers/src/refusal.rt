@@ -1,53 +1,36 @@
-// Why a call is refused, and checks as values: one after the other, the first that fails decides.
+// Why a call is refused, and checks: one after the other, the first that fails decides.
 ghost use Rattle.std.specs.Prelude.{◌≡◌};
-ghost use Rattle.numbers.specs.Refusal.{number, verdict, refuse, ◌then◌};
+ghost use Rattle.numbers.specs.Refusal.{number, verdict, refuse};
 
-// What was refused. The definition `number` gives the number of each, document 01's and from 11 on 02's.
-// A density is refused as `NotFinite` also where it is to be listed and below 0.
-#[derive(Clone, Copy)]
+// What was refused, with its number: document 01's and from 11 on 02's. A density is refused as `NotFinite` also where
+// it is to be listed and below 0.
+#[derive(Clone, Copy, PartialEq, Eq, Debug)]
 pub enum Refusal {
-    Roughness,
-    Eta,
-    K,
-    Wavelength,
-    Direction,
-    RandomNumber,
-    CirclePair,
-    Filter,
-    NotFinite,
-    Power,
-    Full,
-    Id,
-    Outer,
+    Roughness = 1,
+    Eta = 2,
+    K = 3,
+    Wavelength = 4,
+    Direction = 5,
+    RandomNumber = 6,
+    CirclePair = 7,
+    Filter = 8,
+    NotFinite = 9,
+    Power = 10,
+    Full = 11,
+    Id = 12,
+    Outer = 13,
 }
 
 // Whether a check passed, and why not.
-#[derive(Clone, Copy)]
-pub enum Check {
-    Accepted,
-    Refused(Refusal),
-}
+pub type Check = Result<(), Refusal>;
 
 impl Refusal {
     // The number of the refusal.
+    #[tactic(auto, unfolding(crate::specs::Refusal::number))]
     pub fn number(self) -> u64
         ensures { result ≡ number self }
     {
-        match self {
-            Refusal::Roughness => 1,
-            Refusal::Eta => 2,
-            Refusal::K => 3,
-            Refusal::Wavelength => 4,
-            Refusal::Direction => 5,
-            Refusal::RandomNumber => 6,
-            Refusal::CirclePair => 7,
-            Refusal::Filter => 8,
-            Refusal::NotFinite => 9,
-            Refusal::Power => 10,
-            Refusal::Full => 11,
-            Refusal::Id => 12,
-            Refusal::Outer => 13,
-        }
+        self as u64
     }
 }
 
@@ -55,20 +38,5 @@ impl Refusal {
 pub fn refuse(why: Refusal, holds: bool) -> Check
     ensures { verdict result ≡ refuse (number why) «holds» }
 {
-    if holds {
-        return Check::Accepted;
-    }
-    Check::Refused(why)
-}
-
-impl Check {
-    // This check, then the next.
-    pub fn then(self, next: Check) -> Check
-        ensures { verdict result ≡ (verdict self then verdict next) }
-    {
-        match self {
-            Check::Accepted => next,
-            Check::Refused(why) => Check::Refused(why),
-        }
-    }
+    if holds { Ok(()) } else { Err(why) }
 }

@@ -6,16 +6,13 @@ never : (n : ℕ) → rejected n ≡ accepted → ⊥
 never n e = let z : ◌≡◌ {A = ℕ} 0 1 = cc in omega arith
 
 pub test_passed : (n : ℕ) (b : Bool) → refuse n b ≡ accepted → T b
-unfolding refuse
 test_passed n true e = tt
 test_passed n false e = never n e
 
 pub first_passed : (c d : Verdict) → (c then d) ≡ accepted → c ≡ accepted
-unfolding ◌then◌
 first_passed accepted d e = refl
 first_passed (rejected n) d e = absurd (never n e)
 
 pub next_passed : (c d : Verdict) → (c then d) ≡ accepted → d ≡ accepted
-unfolding ◌then◌
 next_passed accepted d e = e
 next_passed (rejected n) d e = absurd (never n e)
