@@ -97,14 +97,14 @@ module _ (n k : ℕ) (ids : List ℕ) (id : ℕ) (is : n ≡ min k 64) (e : leng
   place = first_where (is_id id) (take n ids)
 
   pub departs : place < n → accepted ≡ check (take k ids) (departure id)
-  unfolding check refuse
+  unfolding check
   departs h =
       let l = length-take n ids in
       let f : place < length (take n ids) = omega arith in
       rw (← looked_at n k ids is e, among_found id (take n ids) f)
 
   pub departs_not : n ≤ place → rejected 12 ≡ check (take k ids) (departure id)
-  unfolding check refuse
+  unfolding check
   departs_not h =
       let l = length-take n ids in
       let f : length (take n ids) ≤ place = omega arith in

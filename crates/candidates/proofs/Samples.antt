@@ -9,7 +9,7 @@ use Rattle.candidates.specs.Memory.{rows, listed, listed_ids, holding, is_among,
 use Rattle.candidates.specs.Samples.{Samples, left_by}
 
 pub samples : Samples
-unfolding lt le eq neg is_finite refuse ◌then◌ over is_density check_candidate goes_before is_id has_id rows listed listed_ids holding is_among check insert remove changed answer unless_refused left left_by
+unfolding lt le eq neg is_finite over is_density check_candidate goes_before is_id has_id rows listed listed_ids holding is_among check insert remove changed answer unless_refused left left_by
 samples = record {
   full_and_listed = refl;
   full_and_below_zero = refl;

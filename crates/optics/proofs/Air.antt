@@ -163,7 +163,6 @@ air-holds Glass eta = refl
 
 -- a test that passes wherever the first does changes nothing of a chain
 then_passed : (b k o : Bool) → (T b → o ≡ true) → (refuse 2 b then refuse 3 k then refuse 13 o) ≡ (refuse 2 b then refuse 3 k)
-unfolding refuse ◌then◌
 then_passed false k o h = refl
 then_passed true true o h = rw (h tt)
 then_passed true false o h = refl

@@ -1,5 +1,5 @@
 -- Mirror, bend and the samplers of metal and glass, in the order of operations of lumo's src/tracer/bxdf/microfacet.rs. Definitions only.
-use Rattle.std.specs.Prelude.{Bool, true, false, ◌||◌, cond, Float}
+use Rattle.std.specs.Prelude.{Bool, true, false, ◌||◌, cond, Float, Option, Some, None}
 use Rattle.std.specs.Float.Ieee.{neg, lt, eq}
 use Rattle.floats.specs.Float.{◌⊕◌, ◌⊖◌, ◌⊘◌, f0, f1, f2}
 use Rattle.numbers.specs.Vec3.{vec3, Z, add, sub, float_mul, div_float, negate, dot, project_onto}
@@ -8,7 +8,7 @@ use Rattle.numbers.specs.declared.{vec2.Vec2.Vec2, vec3.Vec3.Vec3}
 use Rattle.optics.specs.Facets.{is_delta}
 use Rattle.optics.specs.Fresnel.{sin2_i, is_total, cos_i, f_at}
 use Rattle.optics.specs.Sampler.{sample_normal}
-pub use Rattle.optics.specs.declared.bxdf.{Reflected.Reflected, Refracted.Refracted, Sampled.Sampled}
+pub use Rattle.optics.specs.declared.bxdf.{Refracted.Refracted, Sampled.Sampled}
 
 -- what a mirror or a bend answers: a direction, none, or total reflection where the Rust has `unreachable!`
 pub data Outgoing : Type 0 where
@@ -16,9 +16,9 @@ pub data Outgoing : Type 0 where
   none : Outgoing
   total : Outgoing
 
-unfoldable pub reflected : Reflected → Outgoing
-reflected (Reflected.Direction wi) = direction wi
-reflected Reflected.None = none
+unfoldable pub reflected : Option Vec3 → Outgoing
+reflected (Some wi) = direction wi
+reflected None = none
 
 unfoldable pub refracted : Refracted → Outgoing
 refracted (Refracted.Direction wi) = direction wi

@@ -1,5 +1,6 @@
 -- What the contracts of the crate cite: definitions only, each with its source.
 pub mod Color
+pub mod Spectra
 pub mod Surface
 pub mod Facets
 pub mod Fresnel

@@ -11,13 +11,6 @@ ghost use Rattle.optics.specs.Bxdf.{reflected, refracted, reflect, refract};
 ghost use Rattle.optics.specs.Density.{on_z_side, at_z, pdf_of};
 ghost use Rattle.optics.specs.SharedTerms.{refract_facing_from, refract_from};
 
-// What a mirror answers.
-#[derive(Clone, Copy)]
-pub enum Reflected {
-    Direction(Vec3),
-    None,
-}
-
 // What a bend answers: `Total` at total internal reflection.
 #[derive(Clone, Copy)]
 pub enum Refracted {
@@ -34,14 +27,15 @@ pub enum Sampled {
     Total,
 }
 
-pub fn reflect(wo: Vec3, n: Vec3) -> Reflected
+// The mirrored direction, if it is on `wo`'s side.
+pub fn reflect(wo: Vec3, n: Vec3) -> Option<Vec3>
     ensures { reflected result ≡ reflect wo n }
 {
     let wi = Vec3::float_mul(2.0, wo.project_onto(n)).sub(wo);
     if spherical_utils::same_hemisphere(wi, wo) {
-        return Reflected::Direction(wi);
+        return Some(wi);
     }
-    Reflected::None
+    None
 }
 
 // Snell-Descartes law

@@ -2,11 +2,11 @@
 // a random number, a point of the circle.
 ghost use Rattle.std.specs.Prelude.{◌≡◌};
 ghost use Rattle.numbers.specs.Refusal.{verdict};
-ghost use Rattle.optics.specs.Surface.{microsurface, medium, is_roughness, roughness_holds, eta_holds, is_eta, all_zero, k_entries_hold, k_holds, outer_holds};
+ghost use Rattle.optics.specs.Surface.{medium, is_roughness, roughness_holds, eta_holds, is_eta, all_zero, k_entries_hold, k_holds, outer_holds};
 ghost use Rattle.optics.specs.Check.{check_spectra, check_surface, check_eta, check_lookups, check_random, is_circle_pair, check_circle_pair};
 
 use crate::color::Color;
-use crate::microfacet::{Kind, Surface};
+use crate::microfacet::{Kind, Microsurface, Spectra};
 use floats::float;
 use numbers::dense_spectrum;
 use numbers::refusal::{Check, Refusal, refuse};
@@ -96,25 +96,29 @@ fn outer_holds(kind: Kind, eta: &[f64], outer: &[f64]) -> bool
 }
 
 // What a surface holds beside its roughness.
-pub fn check_spectra(kind: Kind, eta: &[f64], k: &[f64], outer: &[f64]) -> Check
-    ensures { verdict result ≡ check_spectra kind eta.now k.now (medium outer.now) }
+#[tactic(auto, unfolding(crate::specs::Check::check_spectra, numbers::specs::Refusal::number))]
+pub fn check_spectra(kind: Kind, spectra: &Spectra<'_>) -> Check
+    ensures { verdict result ≡ check_spectra kind spectra.now.eta spectra.now.k (medium spectra.now.outer) }
 {
-    refuse(Refusal::Eta, eta_holds(eta))
-        .then(refuse(Refusal::K, k_holds(kind, eta, k)))
-        .then(refuse(Refusal::Outer, outer_holds(kind, eta, outer)))
+    refuse(Refusal::Eta, eta_holds(spectra.eta))?;
+    refuse(Refusal::K, k_holds(kind, spectra.eta, spectra.k))?;
+    refuse(
+        Refusal::Outer,
+        outer_holds(kind, spectra.eta, spectra.outer),
+    )
 }
 
 // The fields of a surface.
-pub fn check_surface(surface: Surface, eta: &[f64], k: &[f64], outer: &[f64]) -> Check
-    ensures { verdict result ≡ check_surface (microsurface surface eta.now k.now outer.now) }
+#[tactic(auto, unfolding(crate::specs::Check::check_surface, numbers::specs::Refusal::number))]
+pub fn check_surface(m: &Microsurface<'_>) -> Check
+    ensures { verdict result ≡ check_surface m.now }
 {
-    let kind = surface.kind;
-    refuse(Refusal::Roughness, roughness_holds(surface.roughness)).then(check_spectra(
-        kind, eta, k, outer,
-    ))
+    refuse(Refusal::Roughness, roughness_holds(m.surface.roughness))?;
+    check_spectra(m.surface.kind, &m.spectra)
 }
 
 // The index of a lone bend.
+#[tactic(auto, unfolding(crate::specs::Check::check_eta, numbers::specs::Refusal::number))]
 pub fn check_eta(eta: f64) -> Check
     ensures { verdict result ≡ check_eta eta }
 {
@@ -122,6 +126,7 @@ pub fn check_eta(eta: f64) -> Check
 }
 
 // Wavelengths as in a lookup: 0 is accepted.
+#[tactic(auto, unfolding(crate::specs::Check::check_lookups, numbers::specs::Refusal::number))]
 pub fn check_lookups(lambda: Color) -> Check
     ensures { verdict result ≡ check_lookups lambda }
 {
@@ -135,6 +140,7 @@ pub fn check_lookups(lambda: Color) -> Check
 }
 
 // A random number: from 0 to below 1.
+#[tactic(auto, unfolding(crate::specs::Check::check_random, crate::specs::Check::is_random, numbers::specs::Refusal::number))]
 pub fn check_random(u: f64) -> Check
     ensures { verdict result ≡ check_random u }
 {
@@ -150,6 +156,7 @@ fn is_circle_pair(c: f64, s: f64) -> bool
 }
 
 // The cosine and the sine of an angle.
+#[tactic(auto, unfolding(crate::specs::Check::check_circle_pair, numbers::specs::Refusal::number))]
 pub fn check_circle_pair(c: f64, s: f64) -> Check
     ensures { verdict result ≡ check_circle_pair c s }
 {

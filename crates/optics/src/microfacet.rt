@@ -19,6 +19,7 @@ use numbers::dense_spectrum::{DenseSpectrum, GridPoint};
 use numbers::vec2::Vec2;
 use numbers::vec3::Vec3;
 use numbers::{EPSILON, dense_spectrum};
+use std::marker::Model;
 
 pub const PI: f64 = 3.141592653589793;
 
@@ -62,13 +63,44 @@ impl Kind {
     }
 }
 
-// Configurable parameters for a microsurface. Its spectra are lent beside it: the refraction index eta, the
-// absorption coefficient k, and the outer spectrum, which is the refraction index of what lies outside glass.
+// Configurable parameters for a microsurface, but for its spectra.
 #[derive(Clone, Copy)]
 pub struct Surface {
     pub kind: Kind,
     // Roughness of the surface (α) along x and y
     pub roughness: Vec2,
+}
+
+// A surface's spectra, which are lent: the refraction index eta, the absorption coefficient k, and the outer spectrum,
+// which is the refraction index of what lies outside glass.
+#[derive(Drop)]
+pub struct Spectra<'a> {
+    pub eta: &'a [f64],
+    pub k: &'a [f64],
+    pub outer: &'a [f64],
+}
+
+impl<'a> Model for Spectra<'a> {
+    ghost use Rattle.optics.specs.Spectra.{Spectra};
+
+    ghost Value = { Spectra };
+
+    ghost view = { λ s. record { eta = s.eta.now; k = s.k.now; outer = s.outer.now } };
+}
+
+// A surface with the spectra that are lent for it.
+#[derive(Drop)]
+pub struct Microsurface<'a> {
+    pub surface: Surface,
+    pub spectra: Spectra<'a>,
+}
+
+impl<'a> Model for Microsurface<'a> {
+    ghost use Rattle.optics.specs.Surface.{Microsurface, microsurface};
+
+    ghost Value = { Microsurface };
+
+    ghost view = { λ m. microsurface m.surface m.spectra.eta m.spectra.k m.spectra.outer };
 }
 
 // What a call finds of a surface's spectra before it reads them at a wavelength: how far apart their entries are,
@@ -81,14 +113,14 @@ pub struct Known {
 }
 
 impl Known {
-    pub fn on_glass(eta: &[f64], outer: &[f64]) -> Known
-        ensures { result ≡ known_on_glass eta.now outer.now }
+    pub fn on_glass(spectra: &Spectra<'_>) -> Known
+        ensures { result ≡ known_on_glass spectra.now.eta spectra.now.outer }
     {
-        let outer_constant = DenseSpectrum::is_constant(outer);
+        let outer_constant = DenseSpectrum::is_constant(spectra.outer);
         Known {
-            step: DenseSpectrum::step(eta),
+            step: DenseSpectrum::step(spectra.eta),
             outer_constant,
-            eta_constant: DenseSpectrum::is_constant(eta) & outer_constant,
+            eta_constant: DenseSpectrum::is_constant(spectra.eta) & outer_constant,
         }
     }
 }
@@ -101,10 +133,11 @@ pub fn eta_at(eta: &[f64], wl: f64) -> f64
 }
 
 // The absorption coefficient at one wavelength, with eta's spacing.
-pub fn k_at(eta: &[f64], k: &[f64], wl: f64) -> f64
-    ensures { result ≡ k_at eta.now k.now wl }
+pub fn k_at(spectra: &Spectra<'_>, wl: f64) -> f64
+    ensures { result ≡ k_at spectra.now.eta spectra.now.k wl }
 {
-    DenseSpectrum::sample_from(k, GridPoint::new(DenseSpectrum::step(eta), wl))
+    let step = DenseSpectrum::step(spectra.eta);
+    DenseSpectrum::sample_from(spectra.k, GridPoint::new(step, wl))
 }
 
 // The index and the absorption coefficient: `eta` is on glass already divided by what lies outside.
@@ -115,20 +148,15 @@ pub struct OpticalConstants {
 }
 
 // Both at one wavelength.
-pub fn optical_constants(
-    kind: Kind,
-    eta: &[f64],
-    k: &[f64],
-    outer: &[f64],
-    wl: f64,
-) -> OpticalConstants
-    ensures { (result.eta ≡ index_on kind eta.now (medium outer.now) wl) × (result.k ≡ k_at eta.now k.now wl) }
+pub fn optical_constants(kind: Kind, spectra: &Spectra<'_>, wl: f64) -> OpticalConstants
+    ensures { (result.eta ≡ index_on kind spectra.now.eta (medium spectra.now.outer) wl) × (result.k ≡ k_at spectra.now.eta spectra.now.k wl) }
 {
-    let step = DenseSpectrum::step(eta);
+    let step = DenseSpectrum::step(spectra.eta);
     match kind {
-        Kind::Metal => metal_constants_at(step, eta, k, wl),
+        Kind::Metal => metal_constants_at(step, spectra, wl),
         Kind::Glass => {
-            glass_constants_at(DenseSpectrum::is_constant(outer), step, eta, k, outer, wl)
+            let outer_constant = DenseSpectrum::is_constant(spectra.outer);
+            glass_constants_at(outer_constant, step, spectra, wl)
         }
     }
 }
@@ -138,16 +166,15 @@ pub fn optical_constants(
 pub fn glass_constants_at(
     outer_constant: bool,
     step: f64,
-    eta: &[f64],
-    k: &[f64],
-    outer: &[f64],
+    spectra: &Spectra<'_>,
     wl: f64,
 ) -> OpticalConstants
-    ensures { (result.eta ≡ quotient_from outer_constant step eta.now outer.now wl) × (result.k ≡ k_from step k.now wl) }
+    ensures { (result.eta ≡ quotient_from outer_constant step spectra.now.eta spectra.now.outer wl) × (result.k ≡ k_from step spectra.now.k wl) }
 {
     let point = GridPoint::new(step, wl);
-    let inner = DenseSpectrum::sample_from(eta, point);
-    let k = DenseSpectrum::sample_from(k, point);
+    let inner = DenseSpectrum::sample_from(spectra.eta, point);
+    let k = DenseSpectrum::sample_from(spectra.k, point);
+    let outer = spectra.outer;
     OpticalConstants {
         eta: quotient(wl, inner, outer_at(outer_constant, outer, point)),
         k,
@@ -175,13 +202,13 @@ fn outer_at(outer_constant: bool, outer: &[f64], point: GridPoint) -> f64
 }
 
 // On metal, with `step` at hand.
-fn metal_constants_at(step: f64, eta: &[f64], k: &[f64], wl: f64) -> OpticalConstants
-    ensures { (result.eta ≡ eta_from step eta.now wl) × (result.k ≡ k_from step k.now wl) }
+fn metal_constants_at(step: f64, spectra: &Spectra<'_>, wl: f64) -> OpticalConstants
+    ensures { (result.eta ≡ eta_from step spectra.now.eta wl) × (result.k ≡ k_from step spectra.now.k wl) }
 {
     let point = GridPoint::new(step, wl);
     OpticalConstants {
-        eta: DenseSpectrum::sample_from(eta, point),
-        k: DenseSpectrum::sample_from(k, point),
+        eta: DenseSpectrum::sample_from(spectra.eta, point),
+        k: DenseSpectrum::sample_from(spectra.k, point),
     }
 }
 
@@ -453,31 +480,15 @@ fn g1_at(lambda_wo: f64, wo_dot_wh: f64, wo: Vec3, wh: Vec3) -> f64
 }
 
 // Fresnel term with the full equations, at four wavelengths
-pub fn f(
-    kind: Kind,
-    eta: &[f64],
-    k: &[f64],
-    outer: &[f64],
-    wo: Vec3,
-    wh: Vec3,
-    lambda: Color,
-) -> Color
-    ensures { result ≡ f kind eta.now k.now (medium outer.now) wo wh lambda }
+pub fn f(kind: Kind, spectra: &Spectra<'_>, wo: Vec3, wh: Vec3, lambda: Color) -> Color
+    ensures { result ≡ f kind spectra.now.eta spectra.now.k (medium spectra.now.outer) wo wh lambda }
 {
-    let step = DenseSpectrum::step(eta);
+    let step = DenseSpectrum::step(spectra.eta);
     match kind {
-        Kind::Metal => f_on_metal(step, eta, k, wo, wh, lambda),
+        Kind::Metal => f_on_metal(step, spectra, wo, wh, lambda),
         Kind::Glass => {
-            f_on_glass(
-                DenseSpectrum::is_constant(outer),
-                step,
-                eta,
-                k,
-                outer,
-                wo,
-                wh,
-                lambda,
-            )
+            let outer_constant = DenseSpectrum::is_constant(spectra.outer);
+            f_on_glass(outer_constant, step, spectra, wo, wh, lambda)
         }
     }
 }
@@ -486,56 +497,52 @@ pub fn f(
 fn f_on_glass(
     outer_constant: bool,
     step: f64,
-    eta: &[f64],
-    k: &[f64],
-    outer: &[f64],
+    spectra: &Spectra<'_>,
     wo: Vec3,
     wh: Vec3,
     lambda: Color,
 ) -> Color
-    ensures { result ≡ f_glass_from outer_constant step eta.now k.now outer.now wo wh lambda }
+    ensures { result ≡ f_glass_from outer_constant step spectra.now.eta spectra.now.k spectra.now.outer wo wh lambda }
 {
     let cos_o = wo.dot(wh);
     Color {
-        s0: fresnel_on_glass(outer_constant, step, eta, k, outer, cos_o, lambda.s0),
-        s1: fresnel_on_glass(outer_constant, step, eta, k, outer, cos_o, lambda.s1),
-        s2: fresnel_on_glass(outer_constant, step, eta, k, outer, cos_o, lambda.s2),
-        s3: fresnel_on_glass(outer_constant, step, eta, k, outer, cos_o, lambda.s3),
+        s0: fresnel_on_glass(outer_constant, step, spectra, cos_o, lambda.s0),
+        s1: fresnel_on_glass(outer_constant, step, spectra, cos_o, lambda.s1),
+        s2: fresnel_on_glass(outer_constant, step, spectra, cos_o, lambda.s2),
+        s3: fresnel_on_glass(outer_constant, step, spectra, cos_o, lambda.s3),
     }
 }
 
 fn fresnel_on_glass(
     outer_constant: bool,
     step: f64,
-    eta: &[f64],
-    k: &[f64],
-    outer: &[f64],
+    spectra: &Spectra<'_>,
     cos_o: f64,
     wl: f64,
 ) -> f64
-    ensures { result ≡ fresnel cos_o (quotient_from outer_constant step eta.now outer.now wl) (k_from step k.now wl) }
+    ensures { result ≡ fresnel cos_o (quotient_from outer_constant step spectra.now.eta spectra.now.outer wl) (k_from step spectra.now.k wl) }
 {
-    let at = glass_constants_at(outer_constant, step, eta, k, outer, wl);
+    let at = glass_constants_at(outer_constant, step, spectra, wl);
     fresnel(cos_o, at.eta, at.k)
 }
 
 // On metal, with `step` at hand.
-pub fn f_on_metal(step: f64, eta: &[f64], k: &[f64], wo: Vec3, wh: Vec3, lambda: Color) -> Color
-    ensures { result ≡ f_metal_from step eta.now k.now wo wh lambda }
+pub fn f_on_metal(step: f64, spectra: &Spectra<'_>, wo: Vec3, wh: Vec3, lambda: Color) -> Color
+    ensures { result ≡ f_metal_from step spectra.now.eta spectra.now.k wo wh lambda }
 {
     let cos_o = wo.dot(wh);
     Color {
-        s0: fresnel_on_metal(step, eta, k, cos_o, lambda.s0),
-        s1: fresnel_on_metal(step, eta, k, cos_o, lambda.s1),
-        s2: fresnel_on_metal(step, eta, k, cos_o, lambda.s2),
-        s3: fresnel_on_metal(step, eta, k, cos_o, lambda.s3),
+        s0: fresnel_on_metal(step, spectra, cos_o, lambda.s0),
+        s1: fresnel_on_metal(step, spectra, cos_o, lambda.s1),
+        s2: fresnel_on_metal(step, spectra, cos_o, lambda.s2),
+        s3: fresnel_on_metal(step, spectra, cos_o, lambda.s3),
     }
 }
 
-fn fresnel_on_metal(step: f64, eta: &[f64], k: &[f64], cos_o: f64, wl: f64) -> f64
-    ensures { result ≡ fresnel cos_o (eta_from step eta.now wl) (k_from step k.now wl) }
+fn fresnel_on_metal(step: f64, spectra: &Spectra<'_>, cos_o: f64, wl: f64) -> f64
+    ensures { result ≡ fresnel cos_o (eta_from step spectra.now.eta wl) (k_from step spectra.now.k wl) }
 {
-    let at = metal_constants_at(step, eta, k, wl);
+    let at = metal_constants_at(step, spectra, wl);
     fresnel(cos_o, at.eta, at.k)
 }
 

@@ -23,12 +23,10 @@ Known accepted = Unit
 Known (rejected n) = (why : Refusal) × (number why ≡ n)
 
 both : (c d : Verdict) → Known c → Known d → Known (c then d)
-unfolding ◌then◌
 both accepted d h k = k
 both (rejected n) d h k = h
 
 one : (why : Refusal) (b : Bool) → Known (refuse (number why) b)
-unfolding refuse
 one why true = tt
 one why false = (why, refl)
 

@@ -126,7 +126,7 @@ glass-outer_holds x = rw (length-holds f1, spacing-holds x f1, every-replicate (
 surface-holds :
     (m : Microsurface) → roughness_holds m.roughness ≡ true → eta_holds m.eta ≡ true → k_holds m.kind m.eta m.k ≡ true →
     outer_holds m.kind m.eta m.outside ≡ true → check_surface m ≡ accepted
-unfolding check_surface check_spectra ◌then◌ refuse
+unfolding check_surface check_spectra
 surface-holds m r e k o = rw (r, e, k, o)
 
 disk-holds : is_random f0 ≡ true
@@ -137,7 +137,7 @@ disk-holds = refl
 checks :
     (m : Microsurface) (x u : Float) → check_surface m ≡ accepted → is_power x ≡ true → is_random u ≡ true →
     check_bounce (path grid (all x)) m (along u) ≡ accepted
-unfolding check_bounce check_rest ◌then◌ refuse is_path_lambda is_wavelength is_lookup_wavelength is_filter check_direction is_direction length_squared dot check_random check_circle_pair is_circle_pair decimal within add mul lt le eq
+unfolding check_bounce check_rest is_path_lambda is_wavelength is_lookup_wavelength is_filter check_direction is_direction length_squared dot check_random check_circle_pair is_circle_pair decimal within add mul lt le eq
 checks m x u s p r = rw (s, p, r, disk-holds)
 
 -- ---- metal

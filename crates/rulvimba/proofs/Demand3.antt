@@ -133,7 +133,7 @@ kind_kept (suc zero) h = refl
 kind_kept (suc (suc n)) h = absurd (omega arith)
 
 unknown_refused : (p : Path) (s : SurfaceRecord) (eta k outer : List Float) (b : Bounce) → 1 < s.kind → (bounce_result (bounce p (surface_with s eta k outer) b)).number ≡ 1
-unfolding bounce check_bounce ◌then◌ answered bounce_result
+unfolding bounce check_bounce answered bounce_result
 unknown_refused p s eta k outer b h = rw (unknown-checked s eta k outer h)
 
 kind-known : (p : Path) (s : SurfaceRecord) (eta k outer : List Float) (b : Bounce) → (bounce_result (bounce p (surface_with s eta k outer) b)).number ≡ 0 → kind_code (surface_of s).kind ≡ s.kind
@@ -188,7 +188,7 @@ from_start lambda xs f e calls =
     (subst (λ (q : Path). (run : Run q) → Throughout (path lambda ones) run) (sym p) (demand_3 lambda f) (run_of calls))
 
 pub demand_3_in_memory : Demand3
-unfolding Demand3 start refuse ◌▷◌ start_number path_started
+unfolding Demand3 start start_number path_started
 demand_3_in_memory lambda before n after f h = record {
   accepted = λ e.
       let m : after ≡ numbers_of (path lambda ones) = rw e at h.1 in

@@ -13,9 +13,9 @@ use Rattle.rulvimba.specs.declared.surfaces.SurfaceRecord.{SurfaceRecord}
 use Rattle.rulvimba.specs.Surfaces.{roughness_of, surface_of, surface_with}
 
 pub unknown-checked : (s : SurfaceRecord) (eta k outer : List Float) → 1 < s.kind → check_surface (surface_with s eta k outer) ≡ rejected 1
-unfolding check_surface refuse ◌then◌ surface_of roughness_of roughness_holds is_roughness within roughness_min decimal le
+unfolding check_surface surface_of roughness_of roughness_holds is_roughness within roughness_min decimal le
 unknown-checked s eta k outer h = rw (lt-leb _ _ h)
 
 pub unknown_made : (kind : ℕ) (r : Float) (eta k : List Float) (outside : Outside) → 1 < kind → make_surface (kind_of kind) (roughness_of kind r) eta k outside ≡ refused 1
-unfolding make_surface roughness_of is_roughness_given within le refuse ◌then◌ ◌▷◌
+unfolding make_surface roughness_of is_roughness_given within le
 unknown_made kind r eta k outside h = rw (lt-leb _ _ h)

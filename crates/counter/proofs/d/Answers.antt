@@ -5,9 +5,9 @@ use Rattle.counter.specs.Counter.{d}
 use Rattle.counter.proofs.d.Goals as goal
 
 pub returns-in-Refused : goal.returns-in-Refused
-unfolding d float_answer verdict ◌▷◌
+unfolding d float_answer
 returns-in-Refused c = rw (← c.check_surface.ensures, ← c.check_direction.ensures, ← c.then-check.ensures, c.in-Refused.is)
 
 pub returns : goal.returns
-unfolding d float_answer verdict ◌▷◌
+unfolding d float_answer
 returns c = rw (← c.check_surface.ensures, ← c.check_direction.ensures, ← c.then-check.ensures, c.in_default.is, ← c.d.ensures)

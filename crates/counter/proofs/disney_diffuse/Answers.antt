@@ -5,9 +5,9 @@ use Rattle.counter.specs.Counter.{disney_diffuse}
 use Rattle.counter.proofs.disney_diffuse.Goals as goal
 
 pub returns-in-Refused : goal.returns-in-Refused
-unfolding disney_diffuse float_answer verdict ◌▷◌
+unfolding disney_diffuse float_answer
 returns-in-Refused c = rw (← c.check_surface.ensures, c.in-Refused.is)
 
 pub returns : goal.returns
-unfolding disney_diffuse float_answer verdict ◌▷◌
+unfolding disney_diffuse float_answer
 returns c = rw (← c.check_surface.ensures, c.in_default.is, ← c.disney_diffuse.ensures)

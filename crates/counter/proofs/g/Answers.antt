@@ -5,9 +5,9 @@ use Rattle.counter.specs.Counter.{g}
 use Rattle.counter.proofs.g.Goals as goal
 
 pub returns-in-Refused : goal.returns-in-Refused
-unfolding g float_answer verdict ◌▷◌
+unfolding g float_answer
 returns-in-Refused c = rw (← c.check_surface.ensures, ← c.check_direction.ensures, ← c.then.ensures, ← c.check_direction-2.ensures, ← c.then-2.ensures, ← c.check_direction-3.ensures, ← c.then-check.ensures, c.in-Refused.is)
 
 pub returns : goal.returns
-unfolding g float_answer verdict ◌▷◌
+unfolding g float_answer
 returns c = rw (← c.check_surface.ensures, ← c.check_direction.ensures, ← c.then.ensures, ← c.check_direction-2.ensures, ← c.then-2.ensures, ← c.check_direction-3.ensures, ← c.then-check.ensures, c.in_default.is, ← c.g.ensures)

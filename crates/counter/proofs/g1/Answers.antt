@@ -5,9 +5,9 @@ use Rattle.counter.specs.Counter.{g1}
 use Rattle.counter.proofs.g1.Goals as goal
 
 pub returns-in-Refused : goal.returns-in-Refused
-unfolding g1 float_answer verdict ◌▷◌
+unfolding g1 float_answer
 returns-in-Refused c = rw (← c.check_surface.ensures, ← c.check_direction.ensures, ← c.then.ensures, ← c.check_direction-2.ensures, ← c.then-check.ensures, c.in-Refused.is)
 
 pub returns : goal.returns
-unfolding g1 float_answer verdict ◌▷◌
+unfolding g1 float_answer
 returns c = rw (← c.check_surface.ensures, ← c.check_direction.ensures, ← c.then.ensures, ← c.check_direction-2.ensures, ← c.then-check.ensures, c.in_default.is, ← c.g1.ensures)

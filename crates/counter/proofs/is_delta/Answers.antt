@@ -5,9 +5,9 @@ use Rattle.counter.specs.Counter.{is_delta}
 use Rattle.counter.proofs.is_delta.Goals as goal
 
 pub returns-in-Refused : goal.returns-in-Refused
-unfolding is_delta bool_answer verdict ◌▷◌
+unfolding is_delta bool_answer
 returns-in-Refused c = rw (← c.check_surface.ensures, c.in-Refused.is)
 
 pub returns : goal.returns
-unfolding is_delta bool_answer verdict ◌▷◌
+unfolding is_delta bool_answer
 returns c = rw (← c.check_surface.ensures, c.in_default.is, ← c.is_delta.ensures)

@@ -5,9 +5,9 @@ use Rattle.counter.specs.Counter.{lambda}
 use Rattle.counter.proofs.lambda.Goals as goal
 
 pub returns-in-Refused : goal.returns-in-Refused
-unfolding lambda float_answer verdict ◌▷◌
+unfolding lambda float_answer
 returns-in-Refused c = rw (← c.check_surface.ensures, ← c.check_direction.ensures, ← c.then-check.ensures, c.in-Refused.is)
 
 pub returns : goal.returns
-unfolding lambda float_answer verdict ◌▷◌
+unfolding lambda float_answer
 returns c = rw (← c.check_surface.ensures, ← c.check_direction.ensures, ← c.then-check.ensures, c.in_default.is, ← c.lambda.ensures)

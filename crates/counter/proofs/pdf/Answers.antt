@@ -7,9 +7,9 @@ use Rattle.optics.specs.Density as Density
 use Rattle.counter.proofs.pdf.Goals as goal
 
 pub returns-in-Refused : goal.returns-in-Refused
-unfolding pdf Density.pdf index_at float_answer verdict ◌▷◌
+unfolding pdf Density.pdf index_at float_answer
 returns-in-Refused c = rw (← c.check_surface.ensures, ← c.check_direction.ensures, ← c.then.ensures, ← c.check_direction-2.ensures, ← c.then-2.ensures, ← c.check_wavelength.ensures, ← c.then-check.ensures, c.in-Refused.is)
 
 pub returns : goal.returns
-unfolding pdf Density.pdf index_at float_answer verdict ◌▷◌
+unfolding pdf Density.pdf index_at float_answer
 returns c = rw (← c.check_surface.ensures, ← c.check_direction.ensures, ← c.then.ensures, ← c.check_direction-2.ensures, ← c.then-2.ensures, ← c.check_wavelength.ensures, ← c.then-check.ensures, c.in_default.is, ← c.optical_constants-at.ensures.0, ← c.optical_constants-at.ensures.1, ← c.pdf.ensures, ← c.finite_only.ensures)

@@ -7,7 +7,7 @@ ghost use Rattle.optics.specs.Density.{conductor_half, conductor_pdf_from, condu
 ghost use Rattle.optics.specs.SharedTerms.{sample_normal_pdf_at};
 
 use crate::bxdf;
-use crate::bxdf::{Reflected, Sampled};
+use crate::bxdf::Sampled;
 use crate::microfacet::Ggx;
 use floats::float;
 use numbers::spherical_utils;
@@ -39,11 +39,11 @@ pub fn sample_from(wo: Vec3, mfd: Ggx, wh: Vec3) -> Sampled
         };
     }
     match bxdf::reflect(wo, wh) {
-        Reflected::Direction(wi) => Sampled::Direction {
+        Some(wi) => Sampled::Direction {
             wi,
             reflection: true,
         },
-        Reflected::None => Sampled::None,
+        None => Sampled::None,
     }
 }
 

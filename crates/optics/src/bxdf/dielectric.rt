@@ -6,7 +6,7 @@ ghost use Rattle.numbers.specs.Vec3.{dot};
 ghost use Rattle.optics.specs.Density.{eta_ratio, dielectric_half, is_discarded, reflected_pdf, passed_pdf, dielectric_pdf_from, dielectric_pdf};
 ghost use Rattle.optics.specs.SharedTerms.{sample_normal_pdf_at, dielectric_from_snell};
 
-use crate::bxdf::{Reflected, Refracted, Sampled};
+use crate::bxdf::{Refracted, Sampled};
 use crate::microfacet::{Ggx, Snell};
 use crate::{bxdf, microfacet};
 use floats::float;
@@ -52,11 +52,11 @@ pub fn sample_from(
 {
     if reflects(rand_u, pr) {
         return match bxdf::reflect(wo, wh) {
-            Reflected::Direction(wi) => Sampled::Direction {
+            Some(wi) => Sampled::Direction {
                 wi,
                 reflection: true,
             },
-            Reflected::None => Sampled::None,
+            None => Sampled::None,
         };
     }
     match bxdf::refract_from(snell, wo_dot_wh, wo, wh) {

@@ -13,7 +13,7 @@ pub check_arrival-check-requires : goal.check_arrival-check-requires
 check_arrival-check-requires c = omega (arith, c.in_use-n.ensures)
 
 pub returns-in-Refused : goal.returns-in-Refused
-unfolding verdict answer listed_ids
+unfolding answer listed_ids
 returns-in-Refused c =
     let a = c.args in
     let m = memory a.count.now a.ids.now a.densities.now in
@@ -24,7 +24,6 @@ returns-in-Refused c =
     (v, refused_leaves m (arrival a.c) _ v)
 
 pub insert-requires : goal.insert-requires
-unfolding verdict
 insert-requires c =
     let a = c.args in
     let l : length a.ids.now ≡ 64 = omega arith in
@@ -37,7 +36,7 @@ pub overflow_add-count : goal.overflow_add-count
 overflow_add-count c = omega (arith, c.in_use-n.ensures)
 
 pub returns : goal.returns
-unfolding verdict answer listed_ids
+unfolding answer listed_ids
 returns c =
     let a = c.args in
     let m = memory a.count.now a.ids.now a.densities.now in

@@ -18,7 +18,7 @@ remove-requires c =
     (l ∙ sym d, omega arith, omega (arith, c.in_use-n.ensures))
 
 pub returns-then-at-n : goal.returns-then-at-n
-unfolding verdict answer listed_ids
+unfolding answer listed_ids
 returns-then-at-n c =
     let a = c.args in
     let m = memory a.count.now a.ids.now a.densities.now in
@@ -30,7 +30,7 @@ returns-then-at-n c =
     (v, rw (c.remove.ensures.0, c.remove.ensures.1) e)
 
 pub returns : goal.returns
-unfolding verdict number answer listed_ids
+unfolding number answer listed_ids
 returns c =
     let a = c.args in
     let m = memory a.count.now a.ids.now a.densities.now in

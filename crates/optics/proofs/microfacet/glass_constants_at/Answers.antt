@@ -8,6 +8,6 @@ pub returns : goal.returns
 unfolding quotient_from eta_from outer_from k_from
 returns c =
     let point = c.new-point.ensures in (
-      rw (c.quotient.ensures, c.outer_at.ensures, c.sample_from-inner.ensures, point, sample_from_point _ _ _, sample_from_point _ _ _),
-      rw (c.sample_from-k.ensures, point) (sample_from_point _ _ _),
+      rw (← c.spectra.view_is, c.quotient.ensures, c.outer_at.ensures, c.sample_from-inner.ensures, point, sample_from_point _ _ _, sample_from_point _ _ _),
+      rw (← c.spectra.view_is, c.sample_from-k.ensures, point) (sample_from_point _ _ _),
     )

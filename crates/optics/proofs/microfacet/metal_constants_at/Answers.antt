@@ -6,6 +6,6 @@ use Rattle.optics.proofs.microfacet.metal_constants_at.Goals as goal
 pub returns : goal.returns
 unfolding eta_from k_from
 returns c = (
-  rw (c.sample_from.ensures, c.new-point.ensures) (sample_from_point _ _ _),
-  rw (c.sample_from-2.ensures, c.new-point.ensures) (sample_from_point _ _ _),
+  rw (← c.spectra.view_is, c.sample_from.ensures, c.new-point.ensures) (sample_from_point _ _ _),
+  rw (← c.spectra.view_is, c.sample_from-2.ensures, c.new-point.ensures) (sample_from_point _ _ _),
 )

@@ -25,23 +25,22 @@ step_of_lem accepted Metal eta outer = refl
 step_of_lem (rejected n) kind eta outer = refl
 
 pub returns-in-Refused : goal.returns-in-Refused
-unfolding bounce answered verdict check_bounce outcome
+unfolding bounce answered check_bounce outcome
 returns-in-Refused c = rw (← c.requires.0, ← c.check_rest.ensures, ← c.then.ensures, c.in-Refused.is)
 
 pub on_metal-requires : goal.on_metal-requires
 on_metal-requires c = (c.in-Metal.is, ap (λ (x : Known). x.step) c.requires.1 ∙ step_of_lem _ _ _ _)
 
 pub on_glass-requires : goal.on_glass-requires
-unfolding verdict
 on_glass-requires c =
     let passed = first_passed _ _ (sym c.then.ensures ∙ ap verdict c.in_default.is) in
     let glass = c.in-Glass.is in
     (glass, glass-known _ _ _ _ _ c.requires.1 passed glass)
 
 pub returns-in-Metal : goal.returns-in-Metal
-unfolding bounce answered verdict check_bounce outcome
+unfolding bounce answered check_bounce outcome
 returns-in-Metal c = rw (← c.requires.0, ← c.check_rest.ensures, ← c.then.ensures, c.in_default.is, ← c.on_metal.ensures _)
 
 pub returns-in-Glass : goal.returns-in-Glass
-unfolding bounce answered verdict check_bounce outcome
+unfolding bounce answered check_bounce outcome
 returns-in-Glass c = rw (← c.requires.0, ← c.check_rest.ensures, ← c.then.ensures, c.in_default.is, ← c.on_glass.ensures)

@@ -4,13 +4,13 @@ use Rattle.path.specs.Known.{known_on}
 use Rattle.path.proofs.bsdf.known_on.Goals as goal
 
 pub returns-in-Refused : goal.returns-in-Refused
-unfolding known_on verdict
+unfolding known_on
 returns-in-Refused c = rw (c.in-Refused.is, ← c.known_step.ensures)
 
 pub returns-in-Metal : goal.returns-in-Metal
-unfolding known_on verdict
+unfolding known_on
 returns-in-Metal c = rw (c.in_default.is, c.in-Metal.is, ← c.known_step-in-Metal.ensures)
 
 pub returns-in-Glass : goal.returns-in-Glass
-unfolding known_on verdict
+unfolding known_on
 returns-in-Glass c = rw (c.in_default.is, c.in-Glass.is, ← c.on_glass.ensures)

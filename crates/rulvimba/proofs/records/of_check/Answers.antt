@@ -4,9 +4,9 @@ use Rattle.rulvimba.specs.Results.{check_number}
 use Rattle.rulvimba.proofs.records.of_check.Goals as goal
 
 pub returns-in-Accepted : goal.returns-in-Accepted
-unfolding check_number verdict
+unfolding check_number
 returns-in-Accepted c = rw c.in-Accepted.is
 
 pub returns-in-Refused : goal.returns-in-Refused
-unfolding check_number verdict
+unfolding check_number
 returns-in-Refused c = rw (c.in-Refused.is, ← c.number.ensures)

@@ -7,9 +7,9 @@ pub returns-then-is_delta : goal.returns-then-is_delta
 unfolding conductor_from branch reflected sampled of_bits
 returns-then-is_delta c = rw (← c.is_delta.ensures, c.if-is_delta.true)
 
-pub returns-in-Direction : goal.returns-in-Direction
+pub returns-in-Some : goal.returns-in-Some
 unfolding conductor_from branch reflected sampled of_bits
-returns-in-Direction c = rw (← c.is_delta.ensures, c.if-is_delta.false, ← c.reflect.ensures, c.in-Direction.is)
+returns-in-Some c = rw (← c.is_delta.ensures, c.if-is_delta.false, ← c.reflect.ensures, c.in-Some.is)
 
 pub returns-in-None : goal.returns-in-None
 unfolding conductor_from branch reflected sampled of_bits

@@ -5,4 +5,4 @@ use Rattle.optics.proofs.microfacet.Known.on_glass.Goals as goal
 
 pub returns : goal.returns
 unfolding known_on_glass constant_eta
-returns c = rw (← c.is_constant-outer_constant.ensures, ← c.step.ensures, ← c.is_constant.ensures)
+returns c = rw (← c.spectra.view_is, ← c.is_constant-outer_constant.ensures, ← c.step.ensures, ← c.is_constant.ensures)

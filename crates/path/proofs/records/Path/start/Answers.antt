@@ -6,9 +6,9 @@ use Rattle.path.specs.Path.{start, ones}
 use Rattle.path.proofs.records.Path.start.Goals as goal
 
 pub returns-then-is_start : goal.returns-then-is_start
-unfolding start refuse ◌▷◌ started number ones of_bits
+unfolding start started number ones of_bits
 returns-then-is_start c = rw (← c.is_start.ensures, c.if-is_start.true)
 
 pub returns : goal.returns
-unfolding start refuse ◌▷◌ started number ones of_bits
+unfolding start started number ones of_bits
 returns c = rw (← c.is_start.ensures, c.if-is_start.false)
