@@ -1,8 +1,8 @@
 -- What the parts of the square root's computation promise each other. Definitions
 -- only; the root itself is defined in SquareRoot.antt, its digits in RootDigits.antt.
-use Rattle.std.specs.Prelude.{ℕ, ◌+◌, ◌-◌, ◌*◌, ◌/◌, ◌^◌, ◌≤◌, ◌<◌, ◌≡◌, T, Float}
+use Rattle.std.specs.Prelude.{ℕ, ◌+◌, ◌-◌, ◌*◌, ◌^◌, ◌≤◌, ◌<◌, ◌≡◌, T, Float}
 use Rattle.std.specs.Float.{binary64}
-use Rattle.std.specs.Float.Ieee.{to_bits, fits}
+use Rattle.std.specs.Float.Ieee.{fits}
 use Rattle.std.specs.Float.Ieee.Positive.{positive}
 use Rattle.floats.specs.SquareRoot.{sqrt, Size}
 pub use Rattle.floats.specs.declared.square_root.Operand.{Operand}
@@ -29,12 +29,7 @@ pub record Scaled (x : Float) (a : Operand) : Type 0 where
 abbrev pub RootOf : Operand → Float → Type 0
 RootOf a r = (x : Float) → Scaled x a → r ≡ sqrt x
 
--- ---- the 53 digits, computed or guessed
+-- ---- the 53 digits
 -- q is the whole number nearest to the root of n, a number above 0: q - 1/2 < √n < q + 1/2, squared
 abbrev pub Nearest : ℕ → ℕ → Type 0
 Nearest q n = (q * q < n + q) × (n ≤ q * q + q)
-
--- ---- the guess
--- x is above 0 and normal: the exponent's field of its pattern is neither 0 nor the largest
-abbrev pub IsNormal : Float → Type 0
-IsNormal x = T (positive x) × (0 < to_bits binary64 x / 2 ^ 52) × (to_bits binary64 x / 2 ^ 52 < 2047)

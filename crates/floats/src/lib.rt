@@ -1,4 +1,4 @@
-// IEEE 754's floats: what Rust's methods give, and the square root, which Rattle has no instruction for.
+// IEEE 754's floats: what Rust's methods give, and the square root, by the processor and by digits.
 // Every public function equals a definition of specs/, for every input.
 #![tactic(auto)]
 

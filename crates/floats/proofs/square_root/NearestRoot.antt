@@ -7,19 +7,19 @@
 use mathlib.Core.Path.{◌≡◌, refl, sym, ap, ◌∙◌, subst}
 use mathlib.Core.Logic.{◌⊎◌, inl, inr}
 use Prim.Native.Nat.{ℕ, zero, suc, ◌+◌, ◌-◌, ◌*◌, ◌/◌, ◌%◌, ◌^◌, ◌≤◌, ◌<◌}
-use native.Mathlib.Nat.{le_trans, le_of_eq, lt_of_le_of_lt, lt_of_lt_of_le, mul_assoc, mul-le-mul_right, mul-le-mul, mul-pos, mul-mul-mul_comm, mul-lt-mul_of_pos_right, lt_of_mul-lt-mul_right, mul-mod_left, le_of_mul-le-mul_right, eq-or-lt_of_le}
+use native.Mathlib.Nat.{le_trans, le_of_eq, lt_of_le_of_lt, lt_of_lt_of_le, mul_assoc, mul-le-mul_right, mul-le-mul, mul-pos, mul-mul-mul_comm, mul-lt-mul_of_pos_right, lt_of_mul-lt-mul_right, eq-or-lt_of_le}
 use native.Mathlib.Omega.{arith}
 use mathlib.Core.Bool.{Bool, false}
-use lib.Dec.{T, ltb→lt, lit<}
-use lib.Pow.{pow-add, pow_pos, pow_mono}
+use lib.Dec.{T, ltb→lt}
+use lib.Pow.{pow-add, pow_pos}
 use lib.Ieee.{Float, fin, binary64, up, down, size, fits, lt}
-use lib.Ieee.Digits.{size-lt, size-le, size_reaches}
 use lib.Ieee.Order.{drop, kept}
 use Rattle.floats.specs.Float.{f0, is_finite}
-use Rattle.floats.specs.SquareRoot.{isqrt, root_of_units, square_root, sqrt, Size, Nearer, NearestRoot, SquareRoot}
+use Rattle.floats.specs.SquareRoot.{root_of_units, square_root, sqrt, Size, Nearer, NearestRoot, SquareRoot}
 use Rattle.floats.proofs.Rounding.{rnd, below_or_from, pow_part, size_above}
-use Rattle.floats.proofs.Rounding.Units.{U, O, U_is, O_is, Is, mag, Held, is_of, units_pos}
-use Rattle.floats.proofs.square_root.WholeRoot.{Root, isqrt-root, even_root, root_of_value, digits_of-root}
+use Rattle.floats.proofs.Rounding.Units.{U, Is, mag, Held, is_of, units_pos}
+use Rattle.floats.proofs.square_root.LeadingDigits.{Leading, leading, root_units, some_units, below_infinity}
+use Rattle.floats.proofs.square_root.WholeRoot.{even_root, root_of_value}
 use Rattle.floats.proofs.square_root.RootBits.{root_of-fits, root_by_units, size_of, below_zero}
 use Rattle.floats.proofs.Rounding.NonNegative.{lt_of_pos}
 
@@ -71,103 +71,7 @@ above_mid' w W k g y e l h =
     lt_of_lt_of_le (let m = mul-le-mul h h in omega arith)
     (le_trans (le_of_eq (mul-mul-mul_comm k g k g)) (le_trans (mul-le-mul_right (g * g) l) (le_of_eq (sym e))))
 
--- ---- the 54 leading digits Q of √(n * U), for n units of 53 digits: n * U is W * 4 ^ b, W being even and of 107 or 108 digits
-record Leading (n : ℕ) : Type 0 where
-  Q : ℕ
-  W : ℕ
-  b : ℕ
-  scaled : n * U ≡ W * (2 ^ b * 2 ^ b)
-  root : Root Q W
-  even : W % 2 ≡ 0
-  low : 2 ^ 53 ≤ Q
-  high : Q < 2 ^ 54
-  few : b ≤ 1532
-
-leading : (n : ℕ) → Held n → 0 < n → Leading n
-leading n held p = record {
-  Q = isqrt 54 W;
-  W = W;
-  b = b;
-  scaled = scaled;
-  root = root;
-  even = even (kept 53 n 1) (2 ^ e) (2 ^ (e + 1)) (pow-add 2 e 1);
-  low = (digits_of-root (isqrt 54 W) W root least most).0;
-  high = (digits_of-root (isqrt 54 W) W root least most).1;
-  few = few;
-}
-  where
-    s : ℕ
-    s = size n
-
-    k : ℕ
-    k = drop 53 n 1
-
-    b : ℕ
-    b = (s + 967) / 2
-
-    e : ℕ
-    e = k + 1073 - (b + b)
-
-    W : ℕ
-    W = kept 53 n 1 * 2 ^ (e + 1)
-
-    dropped : k ≡ s - 53
-    dropped = let w : n / 1 ≡ n = omega arith in ap (λ (z : ℕ). size z - 53) w
-
-    some : 0 < s
-    some = size_above n 0 (omega arith)
-
-    most-digits : s ≤ 2098
-    most-digits = size-le n 2098 (subst (λ (z : ℕ). n < z) O_is held.1)
-
-    few : b ≤ 1532
-    few = let m = most-digits in omega arith
-
-    places : e + 1 + (b + b) ≡ k + 1074
-    places = let d = dropped in omega arith
-
-    scaled : n * U ≡ W * (2 ^ b * 2 ^ b)
-    scaled =
-        ap (λ (z : ℕ). n * z) U_is
-        ∙ ap (λ (z : ℕ). z * 2 ^ 1074) (sym held.0)
-        ∙ mul_assoc (kept 53 n 1) (2 ^ k) (2 ^ 1074)
-        ∙ ap (λ (z : ℕ). kept 53 n 1 * z) (sym (pow-add 2 k 1074) ∙ ap (λ (z : ℕ). 2 ^ z) (sym places) ∙ pow-add 2 (e + 1) (b + b))
-        ∙ sym (mul_assoc (kept 53 n 1) (2 ^ (e + 1)) (2 ^ (b + b)))
-        ∙ ap (λ (z : ℕ). W * z) (pow-add 2 b b)
-
-    even : (y v w : ℕ) → w ≡ v * 2 → y * w % 2 ≡ 0
-    even y v w h = ap (λ (z : ℕ). z % 2) (ap (λ (z : ℕ). y * z) h ∙ sym (mul_assoc y v 2)) ∙ mul-mod_left (y * v) 2
-
-    in_all : n * 2 ^ 1074 ≡ W * 2 ^ (b + b)
-    in_all = ap (λ (z : ℕ). n * z) (sym U_is) ∙ scaled ∙ ap (λ (z : ℕ). W * z) (sym (pow-add 2 b b))
-
-    least : 2 ^ 106 ≤ W
-    least =
-        let h : 106 + (b + b) ≤ s - 1 + 1074 = let m = some in omega arith in
-        let l : s - 1 < size n = let m = some in omega arith in
-        le_of_mul-le-mul_right {k = 2 ^ (b + b)}
-        (le_trans (le_of_eq (sym (pow-add 2 106 (b + b))))
-        (le_trans (pow_mono h)
-        (le_trans (le_of_eq (pow-add 2 (s - 1) 1074))
-        (le_trans (mul-le-mul_right (2 ^ 1074) (size_reaches n (s - 1) l)) (le_of_eq in_all)))))
-        (pow_pos (b + b))
-
-    most : W < 2 ^ 108
-    most =
-        let h : s + 1074 ≤ 108 + (b + b) = omega arith in
-        lt_of_mul-lt-mul_right (2 ^ (b + b))
-        (lt_of_le_of_lt (le_of_eq (sym in_all))
-        (lt_of_lt_of_le (mul-lt-mul_of_pos_right (size-lt n) (pow_pos 1074))
-        (le_trans (le_of_eq (sym (pow-add 2 s 1074))) (le_trans (pow_mono h) (le_of_eq (pow-add 2 108 (b + b)))))))
-
-    root : Root (isqrt 54 W) W
-    root = isqrt-root 54 W most
-
 -- ---- the root of n units, against every c that binary64 holds
--- the root in units
-abbrev root_units : {n : ℕ} → Leading n → ℕ
-root_units v = (v.Q + 1) / 2 * 2 ^ (v.b + 1)
-
 nearest_units : (n c : ℕ) (v : Leading n) → rnd 53 c 1 ≡ c → Nearer (n * U) (root_units v) c
 nearest_units n c v h = (up-side, λ (l : c < root_units v). down-side l (parity v.Q))
   where
@@ -229,7 +133,7 @@ unfolding is_finite U
 root-near x n i held p = record {
   finite = finite_of (root_of_units binary64 n) false (root_units v) r;
   holds = root_of-fits n;
-  above = lt_of_pos (root_of_units binary64 n) (root_units v) r some;
+  above = lt_of_pos (root_of_units binary64 n) (root_units v) r (some_units v);
   n = n;
   a = root_units v;
   x_size = size_of x false n i;
@@ -240,25 +144,8 @@ root-near x n i held p = record {
     v : Leading n
     v = leading n held p
 
-    half-most : (v.Q + 1) / 2 ≤ 2 ^ 53
-    half-most = let a = v.high in omega arith
-
-    next-few : v.b + 1 ≤ 1533
-    next-few = let a = v.few in omega arith
-
-    under : root_units v < O
-    under =
-        subst (λ (z : ℕ). root_units v < z) (sym O_is)
-        (lt_of_le_of_lt (mul-le-mul half-most (pow_mono next-few)) (lit< {m = 2 ^ 53 * 2 ^ 1533} {n = 2 ^ 2098} tt))
-
     r : Is (root_of_units binary64 n) false (root_units v)
-    r = root_of_value n v.Q v.W v.b held.1 v.scaled v.root v.even v.low v.high under
-
-    half-some : 0 < (v.Q + 1) / 2
-    half-some = let a = v.low in omega arith
-
-    some : 0 < root_units v
-    some = mul-pos half-some (pow_pos (v.b + 1))
+    r = root_of_value n v.Q v.W v.b held.1 v.scaled v.root v.even v.low v.high (below_infinity v)
 
     against : (y : Float) → T (is_finite y) → T (fits binary64 y) → (b : ℕ) × Size y b × Nearer (n * U) (root_units v) b
     against (fin s m e) f t =

@@ -6,13 +6,13 @@
 use mathlib.Core.Path.{◌≡◌, refl, sym, ap, ◌∙◌, subst}
 use mathlib.Core.Logic.{◌⊎◌, inl, inr}
 use Prim.Native.Nat.{ℕ, zero, suc, ◌+◌, ◌-◌, ◌*◌, ◌/◌, ◌%◌, ◌^◌, ◌≤◌, ◌<◌, zero-le}
-use native.Mathlib.Nat.{le_refl, le_trans, le_of_eq, lt_of_le_of_lt, lt_of_lt_of_le, lt_irrefl, mul_comm, mul_assoc, mul-le-mul_right, mul-le-mul_left, mul-le-mul, mul-one, one-mul, mul-pos, lt_of_mul-lt-mul_right, mul-lt-mul_of_pos_right, not-le_of_lt, le_of_suc-le-suc, eq-or-lt_of_le, eq_of_mul-eq-mul_right, le-mul_of_pos_right, le-add_right, add-zero, mul-mul-mul_comm}
+use native.Mathlib.Nat.{le_refl, le_trans, le_of_eq, lt_of_le_of_lt, lt_of_lt_of_le, lt_irrefl, mul_comm, mul_assoc, mul-le-mul_right, mul-le-mul_left, mul-le-mul, mul-one, one-mul, mul-pos, lt_of_mul-lt-mul_right, mul-lt-mul_of_pos_right, not-le_of_lt, le_of_suc-le-suc, eq-or-lt_of_le, eq_of_mul-eq-mul_right, le-add_right, add-zero, mul-mul-mul_comm}
 use native.Mathlib.Omega.{arith}
 use native.Mathlib.Numerals.{add-one}
 use lib.Ieee.Fits.{eq→eqb}
 use mathlib.Core.Bool.{Bool, true, false, not, cond}
 use lib.Dec.{T, leb, eqb, leb→le, nleb→lt, eqb→eq, lit≤, lit<}
-use lib.Pow.{pow-add, pow_pos}
+use lib.Pow.{pow-add, pow_pos, pow_mono}
 use lib.Ieee.{Float, binary64, size, round}
 use lib.Ieee.Digits.{size-le}
 use lib.Ieee.Nearest.{closest}
@@ -209,19 +209,43 @@ isqrt_of : (n : ℕ) → n < O → Root (isqrt 2098 (n * 2 ^ 1074)) (n * 2 ^ 107
 unfolding O
 isqrt_of n h = isqrt-root 2098 (n * 2 ^ 1074) (lt_of_lt_of_le (mul-lt-mul_of_pos_right h (pow_pos 1074)) (lit≤ tt))
 
-two_U_pos : 0 < 2 * U
-two_U_pos = mul-pos {m = 2} (lit< tt) U_pos
+fine_pos : (t : ℕ) → 0 < 2 ^ t * U
+fine_pos t = mul-pos (pow_pos t) U_pos
 
-grid_U : (m : ℕ) → 2 ^ 52 * (2 * U) ≤ m * U → rnd 53 (m * 2 ^ 1 * U) (2 * U) ≡ rnd 53 (m * U) (2 * U) * 2
+grid_U : (m t : ℕ) → 2 ^ 52 * (2 ^ t * U) ≤ m * U → rnd 53 (m * 2 ^ t * U) (2 ^ t * U) ≡ rnd 53 (m * U) (2 ^ t * U) * 2 ^ t
 unfolding U
-grid_U m h = grid_scale binary64 m (2 * U) 1 two_U_pos (normal_of_fraction binary64 m (2 * U) two_U_pos h)
+grid_U m t h = grid_scale binary64 m (2 ^ t * U) t (fine_pos t) (normal_of_fraction binary64 m (2 ^ t * U) (fine_pos t) h)
 
--- a fraction m / 2 of units, twice: rounding does not see the factor, since m / 2 has 53 digits at least
-halved : (m : ℕ) → 2 ^ 53 * 2 ≤ m → rnd 53 (m * U) (2 * U) * 2 ≡ rnd 53 m 1
-halved m h =
-    sym (grid_U m (le_trans (le_of_eq (sym (mul_assoc (2 ^ 52) 2 U)))
-    (mul-le-mul_right {m = 2 ^ 52 * 2} {n = m} U (le_trans {m = 2 ^ 53 * 2} (lit≤ tt) h))))
-    ∙ rnd_same 53 (m * 2 ^ 1 * U) (2 * U) m 1 (lit< tt) two_U_pos (lit< tt) (mul-one (m * 2 * U) ∙ mul_assoc m 2 U)
+-- a fraction m / 2 ^ t of units, times 2 ^ t: rounding does not see the factor, since m / 2 ^ t has 53 digits at least
+finer : (m t : ℕ) → 2 ^ 53 * 2 ^ t ≤ m → rnd 53 (m * U) (2 ^ t * U) * 2 ^ t ≡ rnd 53 m 1
+finer m t h =
+    sym (grid_U m t (le_trans (le_of_eq (sym (mul_assoc (2 ^ 52) (2 ^ t) U)))
+    (mul-le-mul_right U (le_trans (mul-le-mul_right {m = 2 ^ 52} {n = 2 ^ 53} (2 ^ t) (lit≤ tt)) h))))
+    ∙ rnd_same 53 (m * 2 ^ t * U) (2 ^ t * U) m 1 (lit< tt) (fine_pos t) (lit< tt) (mul-one (m * 2 ^ t * U) ∙ mul_assoc m (2 ^ t) U)
+
+-- the root by s places below the unit, of which the definition has none: n * U * 4 ^ s is W * 4 ^ c, R its whole root, and c is b + s
+pub root_by_places : (s Q W R b c w : ℕ) → c ≡ b + s → Root Q W → Root R w → w ≡ W * (2 ^ c * 2 ^ c) → W % 2 ≡ 0 → 2 ^ 53 ≤ Q
+    → Q < 2 ^ 54
+    → (Q + 1) / 2 * 2 ^ (b + 1) < O
+    → Is (round binary64 false (2 * R + sticky R w) (2 ^ (s + 1) * U)) false ((Q + 1) / 2 * 2 ^ (b + 1))
+root_by_places s Q W R b c w p h k e ev l u o =
+    let m = 2 * R + sticky R w in
+    let t = s + 1 in
+    let q = (Q + 1) / 2 in
+    let reach : 2 ^ 53 * 2 ^ s ≤ R =
+    le_trans (mul-le-mul l (pow_mono (let g : s ≤ c = omega arith in g))) (scaled_root Q W R c w h k e).0 in
+    let big : 2 ^ 53 * 2 ^ t ≤ m =
+    le_trans (le_of_eq (ap (λ (z : ℕ). 2 ^ 53 * z) (pow-add 2 s 1) ∙ sym (mul_assoc (2 ^ 53) (2 ^ s) 2)))
+    (le_trans (mul-le-mul_right 2 reach) (le_trans (le_of_eq (mul_comm R 2)) (le-add_right (2 * R) (sticky R w)))) in
+    let places : q * 2 ^ (1 + (c + 1)) ≡ q * 2 ^ (b + 1) * 2 ^ t =
+    ap (λ (z : ℕ). q * 2 ^ z) (let g : 1 + (c + 1) ≡ b + 1 + t = omega arith in g)
+    ∙ ap (λ (z : ℕ). q * z) (pow-add 2 (b + 1) t)
+    ∙ sym (mul_assoc q (2 ^ (b + 1)) (2 ^ t)) in
+    let g : rnd 53 (m * U) (2 ^ t * U) ≡ q * 2 ^ (b + 1) =
+    eq_of_mul-eq-mul_right (2 ^ t) (pow_pos t) (rnd 53 (m * U) (2 ^ t * U)) (q * 2 ^ (b + 1))
+    (finer m t big ∙ root_join Q W R c w h k e ev l u ∙ places) in
+    subst (λ (z : ℕ). Is (round binary64 false m (2 ^ t * U)) false z) g
+    (round_units false m (2 ^ t * U) (subst (λ (z : ℕ). z < O) (sym g) o))
 
 -- the definition, with U shut
 pub root_of_is : (n : ℕ)
@@ -235,24 +259,8 @@ pub root_of_value : (n Q W b : ℕ) → n < O → n * U ≡ W * (2 ^ b * 2 ^ b) 
     → Is (root_of_units binary64 n) false ((Q + 1) / 2 * 2 ^ (b + 1))
 root_of_value n Q W b nO e h ev l u o =
     let w = n * 2 ^ 1074 in
-    let R = isqrt 2098 w in
-    let k = isqrt_of n nO in
-    let e' : w ≡ W * (2 ^ b * 2 ^ b) = ap (λ (z : ℕ). n * z) (sym U_is) ∙ e in
-    let m = 2 * R + sticky R w in
-    let j = root_join Q W R b w h k e' ev l u in
-    let c = scaled_root Q W R b w h k e' in
-    let big : 2 ^ 53 * 2 ≤ m =
-    le_trans (mul-le-mul_right 2 (le_trans l (le_trans (le-mul_of_pos_right Q (pow_pos b)) c.0)))
-    (le_trans (le_of_eq (mul_comm R 2)) (le-add_right (2 * R) (sticky R w))) in
-    let g : rnd 53 (m * U) (2 * U) ≡ (Q + 1) / 2 * 2 ^ (b + 1) =
-    eq_of_mul-eq-mul_right 2 (lit< tt) (rnd 53 (m * U) (2 * U))
-    ((Q + 1) / 2 * 2 ^ (b + 1)) (halved m big ∙ j ∙ ap (λ (z : ℕ). (Q + 1) / 2 * z) (pow-add 2 1 (b + 1)) ∙ regroup ((Q + 1) / 2)
-    (2 ^ (b + 1))) in
     subst (λ (z : Float). Is z false ((Q + 1) / 2 * 2 ^ (b + 1))) (sym (root_of_is n))
-    (subst (λ (z : ℕ). Is (round binary64 false m (2 * U)) false z) g (round_units false m (2 * U) (subst (λ (z : ℕ). z < O) (sym g) o)))
-  where
-    regroup : (q v : ℕ) → q * (2 * v) ≡ q * v * 2
-    regroup q v = omega arith
+    (root_by_places 0 Q W (isqrt 2098 w) b b w (omega arith) h (isqrt_of n nO) (ap (λ (z : ℕ). n * z) (sym U_is) ∙ e) ev l u o)
 
 -- ---- the error of the root, for every value above zero: with R ≤ √(n * U) < R + 1 and m one of 2 * R and 2 * R + 1,
 -- twice the root ρ is within m / 2 ^ 53 of m
@@ -287,7 +295,7 @@ root_of_err n p nO =
     le_trans {m = 2 * 2 ^ 537} (lit≤ tt)
     (le_trans (mul-le-mul_left 2 (le_of_suc-le-suc (lt_of_lt_of_le g (le_of_eq (add-one R))))) (le-add_right (2 * R) st)) in
     let ρ = rnd 53 (m * U) (2 * U) in
-    let e : ρ * 2 ≡ rnd 53 m 1 = halved m big in
+    let e : ρ * 2 ≡ rnd 53 m 1 = finer m 1 big in
     let nr : Near (2 ^ 53 * (2 * ρ)) (2 ^ 53 * m) m =
     subst (λ (z : ℕ). Near (2 ^ 53 * z) (2 ^ 53 * m) m) (sym e ∙ mul_comm ρ 2)
     (rnd_whole 53 m (lit< tt)) in
