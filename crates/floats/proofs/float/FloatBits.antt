@@ -3,13 +3,14 @@
 use mathlib.Core.Path.{◌≡◌, refl, sym, ap, ◌∙◌, subst}
 use Prim.Native.Nat.{ℕ, zero, suc, ◌+◌, ◌*◌, ◌/◌, ◌%◌, ◌≤◌}
 use native.Mathlib.Omega.{arith}
-use mathlib.Core.Bool.{Bool, true, false, not, cond}
+use mathlib.Core.Bool.{Bool, true, false, not, cond, true≢false}
 use lib.Dec.{T, leb, eqb, eqb_refl}
 use lib.Ieee.{Float, nan, inf, fin, binary64, is_nan, ne, eq, lt, fits, to_bits, of_bits, of_fields, odd, nan_bits, up, down}
 use borrow.Author.Tests.{lt-leb, leb-true, leb-false}
 use lib.Ieee.Compare.{differs_from_itself}
 use denote.Floats.{passes}
 use lib.Ieee.Bits.{is_true, of_bits-to_bits, to_bits-lt, nan_bits_is}
+use Rattle.std.specs.Float.{float_is_finite, float_is_infinite, is_sign_negative}
 use Rattle.floats.specs.Float.{abs, sign_bit, signum, is_infinite, is_finite}
 
 -- ---- NaN
@@ -124,15 +125,48 @@ module _ (x : Float) (f : T (fits binary64 x)) where
   pub signum_not_nan : T (not (is_nan x)) → T (not (nan_bits binary64 (to_bits binary64 x / 9223372036854775808 * 9223372036854775808 + 4607182418800017408)))
   signum_not_nan n = rw (nan_bits_is binary64 (to_bits binary64 x / 9223372036854775808 * 9223372036854775808 + 4607182418800017408), signum-bits n) (signum_keeps x n)
 
--- ---- the infinities
-pub infinite_test : (x : Float) → eq (abs x) (inf false) ≡ is_infinite x
-unfolding abs eq is_infinite
-infinite_test nan = refl
-infinite_test (inf s) = refl
-infinite_test (fin s m e) = refl
+-- ---- std's methods: its definitions are the ones of specs/Float.antt, by the cases of a float
+pub finite_is : (x : Float) → float_is_finite x ≡ is_finite x
+unfolding float_is_finite is_finite
+finite_is nan = refl
+finite_is (inf s) = refl
+finite_is (fin s m e) = refl
 
-pub finite_test : (x : Float) → lt (abs x) (inf false) ≡ is_finite x
-unfolding abs lt is_finite
-finite_test nan = refl
-finite_test (inf s) = refl
-finite_test (fin s m e) = refl
+pub infinite_is : (x : Float) → float_is_infinite x ≡ is_infinite x
+unfolding float_is_infinite is_infinite
+infinite_is nan = refl
+infinite_is (inf s) = refl
+infinite_is (fin s m e) = refl
+
+pub sign_is : (x : Float) → is_sign_negative x ≡ sign_bit x
+unfolding is_sign_negative sign_bit
+sign_is nan = refl
+sign_is (inf s) = refl
+sign_is (fin s m e) = refl
+
+-- a NaN has no sign, and is what `abs` and `signum` leave as it is
+pub nan_sign : (x : Float) → is_nan x ≡ true → false ≡ sign_bit x
+unfolding is_nan sign_bit
+nan_sign nan e = refl
+nan_sign (inf s) e = absurd (true≢false (sym e))
+nan_sign (fin s m i) e = absurd (true≢false (sym e))
+
+pub nan_abs : (x : Float) → is_nan x ≡ true → x ≡ abs x
+unfolding is_nan abs
+nan_abs nan e = refl
+nan_abs (inf s) e = absurd (true≢false (sym e))
+nan_abs (fin s m i) e = absurd (true≢false (sym e))
+
+pub nan_signum : (x : Float) → is_nan x ≡ true → x ≡ signum x
+unfolding is_nan signum
+nan_signum nan e = refl
+nan_signum (inf s) e = absurd (true≢false (sym e))
+nan_signum (fin s m i) e = absurd (true≢false (sym e))
+
+pub is_number : (x : Float) → is_nan x ≡ false → T (not (is_nan x))
+is_number x e = rw e tt
+
+-- the pattern of f64::NAN
+pub nan_pattern : of_bits binary64 9221120237041090560 ≡ nan
+unfolding of_bits
+nan_pattern = refl
