@@ -64,68 +64,68 @@ pub extern "C" fn numbers_complex_sin_half(lhs: Complex, norm: f64) -> f64
 pub extern "C" fn numbers_complex_add(lhs: Complex, rhs: Complex) -> Complex
     ensures { result ≡ add lhs rhs }
 {
-    lhs.add(rhs)
+    lhs + rhs
 }
 
 #[unsafe(no_mangle)]
 pub extern "C" fn numbers_complex_float_add(lhs: f64, rhs: Complex) -> Complex
     ensures { result ≡ float_add lhs rhs }
 {
-    Complex::float_add(lhs, rhs)
+    lhs + rhs
 }
 
 #[unsafe(no_mangle)]
 pub extern "C" fn numbers_complex_sub(lhs: Complex, rhs: Complex) -> Complex
     ensures { result ≡ sub lhs rhs }
 {
-    lhs.sub(rhs)
+    lhs - rhs
 }
 
 #[unsafe(no_mangle)]
 pub extern "C" fn numbers_complex_float_sub(lhs: f64, rhs: Complex) -> Complex
     ensures { result ≡ float_sub lhs rhs }
 {
-    Complex::float_sub(lhs, rhs)
+    lhs - rhs
 }
 
 #[unsafe(no_mangle)]
 pub extern "C" fn numbers_complex_mul(lhs: Complex, rhs: Complex) -> Complex
     ensures { result ≡ mul lhs rhs }
 {
-    lhs.mul(rhs)
+    lhs * rhs
 }
 
 #[unsafe(no_mangle)]
 pub extern "C" fn numbers_complex_mul_float(lhs: Complex, rhs: f64) -> Complex
     ensures { result ≡ mul_float lhs rhs }
 {
-    lhs.mul_float(rhs)
+    lhs * rhs
 }
 
 #[unsafe(no_mangle)]
 pub extern "C" fn numbers_complex_float_mul(lhs: f64, rhs: Complex) -> Complex
     ensures { result ≡ float_mul lhs rhs }
 {
-    Complex::float_mul(lhs, rhs)
+    lhs * rhs
 }
 
 #[unsafe(no_mangle)]
 pub extern "C" fn numbers_complex_div(lhs: Complex, rhs: Complex) -> Complex
     ensures { result ≡ div lhs rhs }
 {
-    lhs.div(rhs)
+    lhs / rhs
 }
 
 #[unsafe(no_mangle)]
 pub extern "C" fn numbers_complex_div_float(lhs: Complex, rhs: f64) -> Complex
     ensures { result ≡ div_float lhs rhs }
 {
-    lhs.div_float(rhs)
+    lhs / rhs
 }
 
 #[unsafe(no_mangle)]
 pub extern "C" fn numbers_complex_float_div(lhs: f64, rhs: Complex) -> Complex
     ensures { result ≡ float_div lhs rhs }
 {
-    Complex::float_div(lhs, rhs)
+    lhs / rhs
 }

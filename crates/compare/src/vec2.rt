@@ -58,89 +58,89 @@ pub extern "C" fn numbers_vec2_max(lhs: Vec2, other: Vec2) -> Vec2
 pub extern "C" fn numbers_vec2_negate(lhs: Vec2) -> Vec2
     ensures { result ≡ negate lhs }
 {
-    lhs.negate()
+    -lhs
 }
 
 #[unsafe(no_mangle)]
 pub extern "C" fn numbers_vec2_add(lhs: Vec2, rhs: Vec2) -> Vec2
     ensures { result ≡ add lhs rhs }
 {
-    lhs.add(rhs)
+    lhs + rhs
 }
 
 #[unsafe(no_mangle)]
 pub extern "C" fn numbers_vec2_sub(lhs: Vec2, rhs: Vec2) -> Vec2
     ensures { result ≡ sub lhs rhs }
 {
-    lhs.sub(rhs)
+    lhs - rhs
 }
 
 #[unsafe(no_mangle)]
 pub extern "C" fn numbers_vec2_mul(lhs: Vec2, rhs: Vec2) -> Vec2
     ensures { result ≡ mul lhs rhs }
 {
-    lhs.mul(rhs)
+    lhs * rhs
 }
 
 #[unsafe(no_mangle)]
 pub extern "C" fn numbers_vec2_div(lhs: Vec2, rhs: Vec2) -> Vec2
     ensures { result ≡ div lhs rhs }
 {
-    lhs.div(rhs)
+    lhs / rhs
 }
 
 #[unsafe(no_mangle)]
 pub extern "C" fn numbers_vec2_add_float(lhs: Vec2, rhs: f64) -> Vec2
     ensures { result ≡ add_float lhs rhs }
 {
-    lhs.add_float(rhs)
+    lhs + rhs
 }
 
 #[unsafe(no_mangle)]
 pub extern "C" fn numbers_vec2_sub_float(lhs: Vec2, rhs: f64) -> Vec2
     ensures { result ≡ sub_float lhs rhs }
 {
-    lhs.sub_float(rhs)
+    lhs - rhs
 }
 
 #[unsafe(no_mangle)]
 pub extern "C" fn numbers_vec2_mul_float(lhs: Vec2, rhs: f64) -> Vec2
     ensures { result ≡ mul_float lhs rhs }
 {
-    lhs.mul_float(rhs)
+    lhs * rhs
 }
 
 #[unsafe(no_mangle)]
 pub extern "C" fn numbers_vec2_div_float(lhs: Vec2, rhs: f64) -> Vec2
     ensures { result ≡ div_float lhs rhs }
 {
-    lhs.div_float(rhs)
+    lhs / rhs
 }
 
 #[unsafe(no_mangle)]
 pub extern "C" fn numbers_vec2_float_add(lhs: f64, rhs: Vec2) -> Vec2
     ensures { result ≡ float_add lhs rhs }
 {
-    Vec2::float_add(lhs, rhs)
+    lhs + rhs
 }
 
 #[unsafe(no_mangle)]
 pub extern "C" fn numbers_vec2_float_sub(lhs: f64, rhs: Vec2) -> Vec2
     ensures { result ≡ float_sub lhs rhs }
 {
-    Vec2::float_sub(lhs, rhs)
+    lhs - rhs
 }
 
 #[unsafe(no_mangle)]
 pub extern "C" fn numbers_vec2_float_mul(lhs: f64, rhs: Vec2) -> Vec2
     ensures { result ≡ float_mul lhs rhs }
 {
-    Vec2::float_mul(lhs, rhs)
+    lhs * rhs
 }
 
 #[unsafe(no_mangle)]
 pub extern "C" fn numbers_vec2_float_div(lhs: f64, rhs: Vec2) -> Vec2
     ensures { result ≡ float_div lhs rhs }
 {
-    Vec2::float_div(lhs, rhs)
+    lhs / rhs
 }

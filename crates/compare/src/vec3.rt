@@ -142,89 +142,89 @@ pub extern "C" fn numbers_vec3_max(lhs: Vec3, other: Vec3) -> Vec3
 pub extern "C" fn numbers_vec3_negate(lhs: Vec3) -> Vec3
     ensures { result ≡ negate lhs }
 {
-    lhs.negate()
+    -lhs
 }
 
 #[unsafe(no_mangle)]
 pub extern "C" fn numbers_vec3_add(lhs: Vec3, rhs: Vec3) -> Vec3
     ensures { result ≡ add lhs rhs }
 {
-    lhs.add(rhs)
+    lhs + rhs
 }
 
 #[unsafe(no_mangle)]
 pub extern "C" fn numbers_vec3_sub(lhs: Vec3, rhs: Vec3) -> Vec3
     ensures { result ≡ sub lhs rhs }
 {
-    lhs.sub(rhs)
+    lhs - rhs
 }
 
 #[unsafe(no_mangle)]
 pub extern "C" fn numbers_vec3_mul(lhs: Vec3, rhs: Vec3) -> Vec3
     ensures { result ≡ mul lhs rhs }
 {
-    lhs.mul(rhs)
+    lhs * rhs
 }
 
 #[unsafe(no_mangle)]
 pub extern "C" fn numbers_vec3_div(lhs: Vec3, rhs: Vec3) -> Vec3
     ensures { result ≡ div lhs rhs }
 {
-    lhs.div(rhs)
+    lhs / rhs
 }
 
 #[unsafe(no_mangle)]
 pub extern "C" fn numbers_vec3_add_float(lhs: Vec3, rhs: f64) -> Vec3
     ensures { result ≡ add_float lhs rhs }
 {
-    lhs.add_float(rhs)
+    lhs + rhs
 }
 
 #[unsafe(no_mangle)]
 pub extern "C" fn numbers_vec3_sub_float(lhs: Vec3, rhs: f64) -> Vec3
     ensures { result ≡ sub_float lhs rhs }
 {
-    lhs.sub_float(rhs)
+    lhs - rhs
 }
 
 #[unsafe(no_mangle)]
 pub extern "C" fn numbers_vec3_mul_float(lhs: Vec3, rhs: f64) -> Vec3
     ensures { result ≡ mul_float lhs rhs }
 {
-    lhs.mul_float(rhs)
+    lhs * rhs
 }
 
 #[unsafe(no_mangle)]
 pub extern "C" fn numbers_vec3_div_float(lhs: Vec3, rhs: f64) -> Vec3
     ensures { result ≡ div_float lhs rhs }
 {
-    lhs.div_float(rhs)
+    lhs / rhs
 }
 
 #[unsafe(no_mangle)]
 pub extern "C" fn numbers_vec3_float_add(lhs: f64, rhs: Vec3) -> Vec3
     ensures { result ≡ float_add lhs rhs }
 {
-    Vec3::float_add(lhs, rhs)
+    lhs + rhs
 }
 
 #[unsafe(no_mangle)]
 pub extern "C" fn numbers_vec3_float_sub(lhs: f64, rhs: Vec3) -> Vec3
     ensures { result ≡ float_sub lhs rhs }
 {
-    Vec3::float_sub(lhs, rhs)
+    lhs - rhs
 }
 
 #[unsafe(no_mangle)]
 pub extern "C" fn numbers_vec3_float_mul(lhs: f64, rhs: Vec3) -> Vec3
     ensures { result ≡ float_mul lhs rhs }
 {
-    Vec3::float_mul(lhs, rhs)
+    lhs * rhs
 }
 
 #[unsafe(no_mangle)]
 pub extern "C" fn numbers_vec3_float_div(lhs: f64, rhs: Vec3) -> Vec3
     ensures { result ≡ float_div lhs rhs }
 {
-    Vec3::float_div(lhs, rhs)
+    lhs / rhs
 }

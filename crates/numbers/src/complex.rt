@@ -4,6 +4,7 @@ ghost use Rattle.numbers.specs.Complex.{complex, from_float, norm_sqr, norm, co,
 
 use floats::float;
 use floats::square_root::{sqrt, sqrt_or_zero};
+use std::ops::{Add, Div, Mul, Sub};
 
 #[repr(C)]
 #[derive(Clone, Copy)]
@@ -19,13 +20,8 @@ impl Complex {
         Complex { Re, Im }
     }
 
-    pub fn from(v: f64) -> Complex
-        ensures { result ≡ from_float v }
-    {
-        Complex { Re: v, Im: 0.0 }
-    }
-
     // Squared norm
+    #[tactic(auto, unfolding(crate::specs::Complex::norm_sqr))]
     pub fn norm_sqr(self) -> f64
         ensures { result ≡ norm_sqr self }
     {
@@ -43,6 +39,7 @@ impl Complex {
     }
 
     // sqrt(re^(ix)) = sqrt(r) e^(ix/2)
+    #[tactic(auto, unfolding(crate::specs::Complex::sqrt))]
     pub fn sqrt(self) -> Complex
         ensures { result ≡ sqrt self }
     {
@@ -54,6 +51,7 @@ impl Complex {
         }
     }
 
+    #[tactic(auto, unfolding(crate::specs::Complex::norm))]
     pub fn norm(self) -> f64
         ensures { result ≡ norm self }
     {
@@ -84,93 +82,99 @@ impl Complex {
         sin
     }
 
-    pub fn add(self, rhs: Complex) -> Complex
-        ensures { result ≡ add self rhs }
+    #[tactic(auto, unfolding(crate::specs::Complex::is_zero))]
+    fn is_zero(self) -> bool
+        ensures { result ≡ is_zero self }
     {
+        self.Re == 0.0 && self.Im == 0.0
+    }
+}
+
+impl From<f64> for Complex {
+    ghost from_gives = { λ v r. r ≡ from_float v };
+
+    #[tactic(auto, unfolding(crate::specs::Complex::from_float))]
+    fn from(v: f64) -> Complex {
+        Complex { Re: v, Im: 0.0 }
+    }
+}
+
+impl Add for Complex {
+    type Output = Complex;
+
+    ghost add_gives = { λ z w r. r ≡ add z w };
+
+    fn add(self, rhs: Complex) -> Complex {
         Complex {
             Re: self.Re + rhs.Re,
             Im: self.Im + rhs.Im,
         }
     }
+}
 
-    pub fn float_add(lhs: f64, rhs: Complex) -> Complex
-        ensures { result ≡ float_add lhs rhs }
-    {
-        Complex {
-            Re: lhs + rhs.Re,
-            Im: rhs.Im,
-        }
-    }
+impl Sub for Complex {
+    type Output = Complex;
 
-    pub fn sub(self, rhs: Complex) -> Complex
-        ensures { result ≡ sub self rhs }
-    {
+    ghost sub_gives = { λ z w r. r ≡ sub z w };
+
+    fn sub(self, rhs: Complex) -> Complex {
         Complex {
             Re: self.Re - rhs.Re,
             Im: self.Im - rhs.Im,
         }
     }
+}
 
-    pub fn float_sub(lhs: f64, rhs: Complex) -> Complex
-        ensures { result ≡ float_sub lhs rhs }
-    {
-        Complex {
-            Re: lhs - rhs.Re,
-            Im: -rhs.Im,
-        }
-    }
+impl Mul for Complex {
+    type Output = Complex;
 
-    pub fn mul(self, rhs: Complex) -> Complex
-        ensures { result ≡ mul self rhs }
-    {
+    ghost mul_gives = { λ z w r. r ≡ mul z w };
+
+    fn mul(self, rhs: Complex) -> Complex {
         Complex {
             Re: self.Re * rhs.Re - self.Im * rhs.Im,
             Im: self.Re * rhs.Im + self.Im * rhs.Re,
         }
     }
+}
 
-    pub fn mul_float(self, rhs: f64) -> Complex
-        ensures { result ≡ mul_float self rhs }
-    {
-        Complex {
-            Re: self.Re * rhs,
-            Im: self.Im * rhs,
-        }
-    }
+impl Div for Complex {
+    type Output = Complex;
 
-    pub fn float_mul(lhs: f64, rhs: Complex) -> Complex
-        ensures { result ≡ float_mul lhs rhs }
-    {
-        Complex {
-            Re: lhs * rhs.Re,
-            Im: lhs * rhs.Im,
-        }
-    }
+    ghost div_gives = { λ z w r. r ≡ div z w };
 
-    fn is_zero(self) -> bool
-        ensures { result ≡ is_zero self }
-    {
-        if self.Re == 0.0 {
-            return self.Im == 0.0;
-        }
-        false
-    }
-
-    pub fn div(self, rhs: Complex) -> Complex
-        ensures { result ≡ div self rhs }
-    {
+    #[tactic(auto, unfolding(crate::specs::Complex::div))]
+    fn div(self, rhs: Complex) -> Complex {
         if rhs.is_zero() {
             return Complex {
                 Re: float::nan(),
                 Im: float::nan(),
             };
         }
-        self.mul(rhs.co()).div_float(rhs.norm_sqr())
+        self * rhs.co() / rhs.norm_sqr()
     }
+}
 
-    pub fn div_float(self, rhs: f64) -> Complex
-        ensures { result ≡ div_float self rhs }
-    {
+impl Mul<f64> for Complex {
+    type Output = Complex;
+
+    ghost mul_gives = { λ z a r. r ≡ mul_float z a };
+
+    fn mul(self, rhs: f64) -> Complex {
+        Complex {
+            Re: self.Re * rhs,
+            Im: self.Im * rhs,
+        }
+    }
+}
+
+impl Div<f64> for Complex {
+    type Output = Complex;
+
+    ghost div_gives = { λ z a r. r ≡ div_float z a };
+
+    #[tactic(auto, unfolding(crate::specs::Complex::div_float))]
+    fn div(self, rhs: f64) -> Complex {
         if rhs == 0.0 {
             return Complex {
                 Re: float::nan(),
@@ -182,16 +186,60 @@ impl Complex {
             Im: self.Im / rhs,
         }
     }
+}
 
-    pub fn float_div(lhs: f64, rhs: Complex) -> Complex
-        ensures { result ≡ float_div lhs rhs }
-    {
+impl Add<Complex> for f64 {
+    type Output = Complex;
+
+    ghost add_gives = { λ a w r. r ≡ float_add a w };
+
+    fn add(self, rhs: Complex) -> Complex {
+        Complex {
+            Re: self + rhs.Re,
+            Im: rhs.Im,
+        }
+    }
+}
+
+impl Sub<Complex> for f64 {
+    type Output = Complex;
+
+    ghost sub_gives = { λ a w r. r ≡ float_sub a w };
+
+    fn sub(self, rhs: Complex) -> Complex {
+        Complex {
+            Re: self - rhs.Re,
+            Im: -rhs.Im,
+        }
+    }
+}
+
+impl Mul<Complex> for f64 {
+    type Output = Complex;
+
+    ghost mul_gives = { λ a w r. r ≡ float_mul a w };
+
+    fn mul(self, rhs: Complex) -> Complex {
+        Complex {
+            Re: self * rhs.Re,
+            Im: self * rhs.Im,
+        }
+    }
+}
+
+impl Div<Complex> for f64 {
+    type Output = Complex;
+
+    ghost div_gives = { λ a w r. r ≡ float_div a w };
+
+    #[tactic(auto, unfolding(crate::specs::Complex::float_div))]
+    fn div(self, rhs: Complex) -> Complex {
         if rhs.is_zero() {
             return Complex {
                 Re: float::nan(),
                 Im: float::nan(),
             };
         }
-        Complex::float_mul(lhs, rhs.co()).div_float(rhs.norm_sqr())
+        self * rhs.co() / rhs.norm_sqr()
     }
 }

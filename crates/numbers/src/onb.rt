@@ -39,16 +39,15 @@ impl Onb {
     }
 
     // Translate from the ONB to world basis
+    #[tactic(auto, unfolding(crate::specs::Onb::to_world))]
     pub fn to_world(self, v: Vec3) -> Vec3
         ensures { result ≡ to_world self v }
     {
-        let x = Vec3::float_mul(v.x, self.u);
-        let y = Vec3::float_mul(v.y, self.v);
-        let z = Vec3::float_mul(v.z, self.w);
-        x.add(y).add(z)
+        v.x * self.u + v.y * self.v + v.z * self.w
     }
 
     // Translate from world basis to the ONB
+    #[tactic(auto, unfolding(crate::specs::Onb::to_local))]
     pub fn to_local(self, v: Vec3) -> Vec3
         ensures { result ≡ to_local self v }
     {

@@ -7,6 +7,7 @@ use floats::float;
 use floats::square_root::sqrt;
 
 // Are `u` and `v` in the same hemisphere, assuming Z is the normal.
+#[tactic(auto, unfolding(crate::specs::SphericalUtils::same_hemisphere))]
 pub fn same_hemisphere(v: Vec3, u: Vec3) -> bool
     ensures { result ≡ same_hemisphere v u }
 {
@@ -33,36 +34,42 @@ pub fn sin_phi(w: Vec3) -> f64
     float::clamp(w.y / sin, -1.0, 1.0)
 }
 
+#[tactic(auto, unfolding(crate::specs::SphericalUtils::cos_theta))]
 pub fn cos_theta(w: Vec3) -> f64
     ensures { result ≡ cos_theta w }
 {
     w.z
 }
 
+#[tactic(auto, unfolding(crate::specs::SphericalUtils::sin_theta))]
 pub fn sin_theta(w: Vec3) -> f64
     ensures { result ≡ sin_theta w }
 {
     sqrt(sin2_theta(w))
 }
 
+#[tactic(auto, unfolding(crate::specs::SphericalUtils::tan_theta))]
 pub fn tan_theta(w: Vec3) -> f64
     ensures { result ≡ tan_theta w }
 {
     sin_theta(w) / cos_theta(w)
 }
 
+#[tactic(auto, unfolding(crate::specs::SphericalUtils::cos2_theta))]
 pub fn cos2_theta(w: Vec3) -> f64
     ensures { result ≡ cos2_theta w }
 {
     w.z * w.z
 }
 
+#[tactic(auto, unfolding(crate::specs::SphericalUtils::sin2_theta))]
 pub fn sin2_theta(w: Vec3) -> f64
     ensures { result ≡ sin2_theta w }
 {
     float::max(1.0 - cos2_theta(w), 0.0)
 }
 
+#[tactic(auto, unfolding(crate::specs::SphericalUtils::tan2_theta, crate::specs::SphericalUtils::sin2_theta, crate::specs::SphericalUtils::cos2_theta))]
 pub fn tan2_theta(w: Vec3) -> f64
     ensures { result ≡ tan2_theta w }
 {

@@ -1,10 +1,12 @@
-// Vectors of two floats: lumo's src/math/vec2.rs. An operator of the Rust is a function here: on two
-// vectors by its name, on a vector and a float as `add_float`, on a float and a vector as `float_add`.
+// Vectors of two floats: lumo's src/math/vec2.rs. What an operator gives is a definition by its name for two
+// vectors, `add_float` for a vector and a float, and `float_add` for a float and a vector. Apart from Vec3, with
+// no type for any number of parts: C's and lumo's records have fields by name.
 ghost use Rattle.std.specs.Prelude.{◌≡◌};
 ghost use Rattle.numbers.specs.Vec2.{vec2, splat, extend, dot, abs, min, max, negate, add, sub, mul, div, add_float, sub_float, mul_float, div_float, float_add, float_sub, float_mul, float_div};
 
 use crate::vec3::Vec3;
 use floats::float;
+use std::ops::{Add, Div, Mul, Neg, Sub};
 
 #[repr(C)]
 #[derive(Clone, Copy)]
@@ -50,6 +52,7 @@ impl Vec2 {
         self.x * other.x + self.y * other.y
     }
 
+    #[tactic(auto, unfolding(crate::specs::Vec2::abs))]
     pub fn abs(self) -> Vec2
         ensures { result ≡ abs self }
     {
@@ -59,6 +62,7 @@ impl Vec2 {
         }
     }
 
+    #[tactic(auto, unfolding(crate::specs::Vec2::min))]
     pub fn min(self, other: Vec2) -> Vec2
         ensures { result ≡ min self other }
     {
@@ -68,6 +72,7 @@ impl Vec2 {
         }
     }
 
+    #[tactic(auto, unfolding(crate::specs::Vec2::max))]
     pub fn max(self, other: Vec2) -> Vec2
         ensures { result ≡ max self other }
     {
@@ -76,121 +81,173 @@ impl Vec2 {
             y: float::max(self.y, other.y),
         }
     }
+}
 
-    pub fn negate(self) -> Vec2
-        ensures { result ≡ negate self }
-    {
+impl Neg for Vec2 {
+    type Output = Vec2;
+
+    ghost neg_gives = { λ v r. r ≡ negate v };
+
+    fn neg(self) -> Vec2 {
         Vec2 {
             x: -self.x,
             y: -self.y,
         }
     }
+}
 
-    pub fn add(self, rhs: Vec2) -> Vec2
-        ensures { result ≡ add self rhs }
-    {
+impl Add for Vec2 {
+    type Output = Vec2;
+
+    ghost add_gives = { λ v w r. r ≡ add v w };
+
+    fn add(self, rhs: Vec2) -> Vec2 {
         Vec2 {
             x: self.x + rhs.x,
             y: self.y + rhs.y,
         }
     }
+}
 
-    pub fn sub(self, rhs: Vec2) -> Vec2
-        ensures { result ≡ sub self rhs }
-    {
+impl Sub for Vec2 {
+    type Output = Vec2;
+
+    ghost sub_gives = { λ v w r. r ≡ sub v w };
+
+    fn sub(self, rhs: Vec2) -> Vec2 {
         Vec2 {
             x: self.x - rhs.x,
             y: self.y - rhs.y,
         }
     }
+}
 
-    pub fn mul(self, rhs: Vec2) -> Vec2
-        ensures { result ≡ mul self rhs }
-    {
+impl Mul for Vec2 {
+    type Output = Vec2;
+
+    ghost mul_gives = { λ v w r. r ≡ mul v w };
+
+    fn mul(self, rhs: Vec2) -> Vec2 {
         Vec2 {
             x: self.x * rhs.x,
             y: self.y * rhs.y,
         }
     }
+}
 
-    pub fn div(self, rhs: Vec2) -> Vec2
-        ensures { result ≡ div self rhs }
-    {
+impl Div for Vec2 {
+    type Output = Vec2;
+
+    ghost div_gives = { λ v w r. r ≡ div v w };
+
+    fn div(self, rhs: Vec2) -> Vec2 {
         Vec2 {
             x: self.x / rhs.x,
             y: self.y / rhs.y,
         }
     }
+}
 
-    pub fn add_float(self, rhs: f64) -> Vec2
-        ensures { result ≡ add_float self rhs }
-    {
+impl Add<f64> for Vec2 {
+    type Output = Vec2;
+
+    ghost add_gives = { λ v a r. r ≡ add_float v a };
+
+    fn add(self, rhs: f64) -> Vec2 {
         Vec2 {
             x: self.x + rhs,
             y: self.y + rhs,
         }
     }
+}
 
-    pub fn sub_float(self, rhs: f64) -> Vec2
-        ensures { result ≡ sub_float self rhs }
-    {
+impl Sub<f64> for Vec2 {
+    type Output = Vec2;
+
+    ghost sub_gives = { λ v a r. r ≡ sub_float v a };
+
+    fn sub(self, rhs: f64) -> Vec2 {
         Vec2 {
             x: self.x - rhs,
             y: self.y - rhs,
         }
     }
+}
 
-    pub fn mul_float(self, rhs: f64) -> Vec2
-        ensures { result ≡ mul_float self rhs }
-    {
+impl Mul<f64> for Vec2 {
+    type Output = Vec2;
+
+    ghost mul_gives = { λ v a r. r ≡ mul_float v a };
+
+    fn mul(self, rhs: f64) -> Vec2 {
         Vec2 {
             x: self.x * rhs,
             y: self.y * rhs,
         }
     }
+}
 
-    pub fn div_float(self, rhs: f64) -> Vec2
-        ensures { result ≡ div_float self rhs }
-    {
+impl Div<f64> for Vec2 {
+    type Output = Vec2;
+
+    ghost div_gives = { λ v a r. r ≡ div_float v a };
+
+    fn div(self, rhs: f64) -> Vec2 {
         Vec2 {
             x: self.x / rhs,
             y: self.y / rhs,
         }
     }
+}
 
-    pub fn float_add(lhs: f64, rhs: Vec2) -> Vec2
-        ensures { result ≡ float_add lhs rhs }
-    {
+impl Add<Vec2> for f64 {
+    type Output = Vec2;
+
+    ghost add_gives = { λ a v r. r ≡ float_add a v };
+
+    fn add(self, rhs: Vec2) -> Vec2 {
         Vec2 {
-            x: lhs + rhs.x,
-            y: lhs + rhs.y,
+            x: self + rhs.x,
+            y: self + rhs.y,
         }
     }
+}
 
-    pub fn float_sub(lhs: f64, rhs: Vec2) -> Vec2
-        ensures { result ≡ float_sub lhs rhs }
-    {
+impl Sub<Vec2> for f64 {
+    type Output = Vec2;
+
+    ghost sub_gives = { λ a v r. r ≡ float_sub a v };
+
+    fn sub(self, rhs: Vec2) -> Vec2 {
         Vec2 {
-            x: lhs - rhs.x,
-            y: lhs - rhs.y,
+            x: self - rhs.x,
+            y: self - rhs.y,
         }
     }
+}
 
-    pub fn float_mul(lhs: f64, rhs: Vec2) -> Vec2
-        ensures { result ≡ float_mul lhs rhs }
-    {
+impl Mul<Vec2> for f64 {
+    type Output = Vec2;
+
+    ghost mul_gives = { λ a v r. r ≡ float_mul a v };
+
+    fn mul(self, rhs: Vec2) -> Vec2 {
         Vec2 {
-            x: lhs * rhs.x,
-            y: lhs * rhs.y,
+            x: self * rhs.x,
+            y: self * rhs.y,
         }
     }
+}
 
-    pub fn float_div(lhs: f64, rhs: Vec2) -> Vec2
-        ensures { result ≡ float_div lhs rhs }
-    {
+impl Div<Vec2> for f64 {
+    type Output = Vec2;
+
+    ghost div_gives = { λ a v r. r ≡ float_div a v };
+
+    fn div(self, rhs: Vec2) -> Vec2 {
         Vec2 {
-            x: lhs / rhs.x,
-            y: lhs / rhs.y,
+            x: self / rhs.x,
+            y: self / rhs.y,
         }
     }
 }

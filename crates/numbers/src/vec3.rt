@@ -1,11 +1,12 @@
-// Vectors of three floats: lumo's src/math/vec3.rs. An operator of the Rust is a function here: on two
-// vectors by its name, on a vector and a float as `add_float`, on a float and a vector as `float_add`.
+// Vectors of three floats: lumo's src/math/vec3.rs. What an operator gives is a definition by its name for two
+// vectors, `add_float` for a vector and a float, and `float_add` for a float and a vector.
 ghost use Rattle.std.specs.Prelude.{◌≡◌};
 ghost use Rattle.numbers.specs.Vec3.{vec3, splat, truncate, length_squared, length, distance_squared, distance, scale, cross, dot, project_onto, normalize, is_normalized, is_direction, min_element, max_element, abs, min, max, negate, add, sub, mul, div, add_float, sub_float, mul_float, div_float, float_add, float_sub, float_mul, float_div};
 
 use crate::vec2::Vec2;
 use floats::float;
 use floats::square_root::sqrt_or_zero;
+use std::ops::{Add, Div, Mul, Neg, Sub};
 
 #[repr(C)]
 #[derive(Clone, Copy)]
@@ -67,28 +68,32 @@ impl Vec3 {
         }
     }
 
+    #[tactic(auto, unfolding(crate::specs::Vec3::length))]
     pub fn length(self) -> f64
         ensures { result ≡ length self }
     {
         sqrt_or_zero(self.length_squared())
     }
 
+    #[tactic(auto, unfolding(crate::specs::Vec3::length_squared))]
     pub fn length_squared(self) -> f64
         ensures { result ≡ length_squared self }
     {
         self.dot(self)
     }
 
+    #[tactic(auto, unfolding(crate::specs::Vec3::distance))]
     pub fn distance(self, other: Vec3) -> f64
         ensures { result ≡ distance self other }
     {
         sqrt_or_zero(self.distance_squared(other))
     }
 
+    #[tactic(auto, unfolding(crate::specs::Vec3::distance_squared))]
     pub fn distance_squared(self, other: Vec3) -> f64
         ensures { result ≡ distance_squared self other }
     {
-        self.sub(other).length_squared()
+        (self - other).length_squared()
     }
 
     pub fn scale(self, s: f64) -> Vec3
@@ -101,6 +106,7 @@ impl Vec3 {
         }
     }
 
+    #[tactic(auto, unfolding(crate::specs::Vec3::cross))]
     pub fn cross(self, rhs: Vec3) -> Vec3
         ensures { result ≡ cross self rhs }
     {
@@ -111,22 +117,25 @@ impl Vec3 {
         }
     }
 
+    #[tactic(auto, unfolding(crate::specs::Vec3::dot))]
     pub fn dot(self, rhs: Vec3) -> f64
         ensures { result ≡ dot self rhs }
     {
         self.x * rhs.x + self.y * rhs.y + self.z * rhs.z
     }
 
+    #[tactic(auto, unfolding(crate::specs::Vec3::project_onto))]
     pub fn project_onto(self, n: Vec3) -> Vec3
         ensures { result ≡ project_onto self n }
     {
-        n.mul_float(self.dot(n)).div_float(n.length_squared())
+        n * self.dot(n) / n.length_squared()
     }
 
+    #[tactic(auto, unfolding(crate::specs::Vec3::normalize))]
     pub fn normalize(self) -> Vec3
         ensures { result ≡ normalize self }
     {
-        self.div_float(self.length())
+        self / self.length()
     }
 
     pub fn is_normalized(self) -> bool
@@ -142,18 +151,21 @@ impl Vec3 {
         float::within(0.999999, 1.000001, self.length_squared())
     }
 
+    #[tactic(auto, unfolding(crate::specs::Vec3::min_element))]
     pub fn min_element(self) -> f64
         ensures { result ≡ min_element self }
     {
         float::min(self.x, float::min(self.y, self.z))
     }
 
+    #[tactic(auto, unfolding(crate::specs::Vec3::max_element))]
     pub fn max_element(self) -> f64
         ensures { result ≡ max_element self }
     {
         float::max(self.x, float::max(self.y, self.z))
     }
 
+    #[tactic(auto, unfolding(crate::specs::Vec3::abs))]
     pub fn abs(self) -> Vec3
         ensures { result ≡ abs self }
     {
@@ -164,6 +176,7 @@ impl Vec3 {
         }
     }
 
+    #[tactic(auto, unfolding(crate::specs::Vec3::min))]
     pub fn min(self, other: Vec3) -> Vec3
         ensures { result ≡ min self other }
     {
@@ -174,6 +187,7 @@ impl Vec3 {
         }
     }
 
+    #[tactic(auto, unfolding(crate::specs::Vec3::max))]
     pub fn max(self, other: Vec3) -> Vec3
         ensures { result ≡ max self other }
     {
@@ -183,134 +197,191 @@ impl Vec3 {
             z: float::max(self.z, other.z),
         }
     }
+}
 
-    pub fn negate(self) -> Vec3
-        ensures { result ≡ negate self }
-    {
+impl Neg for Vec3 {
+    type Output = Vec3;
+
+    ghost neg_gives = { λ v r. r ≡ negate v };
+
+    #[tactic(auto, unfolding(crate::specs::Vec3::negate))]
+    fn neg(self) -> Vec3 {
         Vec3 {
             x: -self.x,
             y: -self.y,
             z: -self.z,
         }
     }
+}
 
-    pub fn add(self, rhs: Vec3) -> Vec3
-        ensures { result ≡ add self rhs }
-    {
+impl Add for Vec3 {
+    type Output = Vec3;
+
+    ghost add_gives = { λ v w r. r ≡ add v w };
+
+    #[tactic(auto, unfolding(crate::specs::Vec3::add))]
+    fn add(self, rhs: Vec3) -> Vec3 {
         Vec3 {
             x: self.x + rhs.x,
             y: self.y + rhs.y,
             z: self.z + rhs.z,
         }
     }
+}
 
-    pub fn sub(self, rhs: Vec3) -> Vec3
-        ensures { result ≡ sub self rhs }
-    {
+impl Sub for Vec3 {
+    type Output = Vec3;
+
+    ghost sub_gives = { λ v w r. r ≡ sub v w };
+
+    #[tactic(auto, unfolding(crate::specs::Vec3::sub))]
+    fn sub(self, rhs: Vec3) -> Vec3 {
         Vec3 {
             x: self.x - rhs.x,
             y: self.y - rhs.y,
             z: self.z - rhs.z,
         }
     }
+}
 
-    pub fn mul(self, rhs: Vec3) -> Vec3
-        ensures { result ≡ mul self rhs }
-    {
+impl Mul for Vec3 {
+    type Output = Vec3;
+
+    ghost mul_gives = { λ v w r. r ≡ mul v w };
+
+    fn mul(self, rhs: Vec3) -> Vec3 {
         Vec3 {
             x: self.x * rhs.x,
             y: self.y * rhs.y,
             z: self.z * rhs.z,
         }
     }
+}
 
-    pub fn div(self, rhs: Vec3) -> Vec3
-        ensures { result ≡ div self rhs }
-    {
+impl Div for Vec3 {
+    type Output = Vec3;
+
+    ghost div_gives = { λ v w r. r ≡ div v w };
+
+    fn div(self, rhs: Vec3) -> Vec3 {
         Vec3 {
             x: self.x / rhs.x,
             y: self.y / rhs.y,
             z: self.z / rhs.z,
         }
     }
+}
 
-    pub fn add_float(self, rhs: f64) -> Vec3
-        ensures { result ≡ add_float self rhs }
-    {
+impl Add<f64> for Vec3 {
+    type Output = Vec3;
+
+    ghost add_gives = { λ v a r. r ≡ add_float v a };
+
+    fn add(self, rhs: f64) -> Vec3 {
         Vec3 {
             x: self.x + rhs,
             y: self.y + rhs,
             z: self.z + rhs,
         }
     }
+}
 
-    pub fn sub_float(self, rhs: f64) -> Vec3
-        ensures { result ≡ sub_float self rhs }
-    {
+impl Sub<f64> for Vec3 {
+    type Output = Vec3;
+
+    ghost sub_gives = { λ v a r. r ≡ sub_float v a };
+
+    fn sub(self, rhs: f64) -> Vec3 {
         Vec3 {
             x: self.x - rhs,
             y: self.y - rhs,
             z: self.z - rhs,
         }
     }
+}
 
-    pub fn mul_float(self, rhs: f64) -> Vec3
-        ensures { result ≡ mul_float self rhs }
-    {
+impl Mul<f64> for Vec3 {
+    type Output = Vec3;
+
+    ghost mul_gives = { λ v a r. r ≡ mul_float v a };
+
+    fn mul(self, rhs: f64) -> Vec3 {
         Vec3 {
             x: self.x * rhs,
             y: self.y * rhs,
             z: self.z * rhs,
         }
     }
+}
 
-    pub fn div_float(self, rhs: f64) -> Vec3
-        ensures { result ≡ div_float self rhs }
-    {
+impl Div<f64> for Vec3 {
+    type Output = Vec3;
+
+    ghost div_gives = { λ v a r. r ≡ div_float v a };
+
+    #[tactic(auto, unfolding(crate::specs::Vec3::div_float))]
+    fn div(self, rhs: f64) -> Vec3 {
         Vec3 {
             x: self.x / rhs,
             y: self.y / rhs,
             z: self.z / rhs,
         }
     }
+}
 
-    pub fn float_add(lhs: f64, rhs: Vec3) -> Vec3
-        ensures { result ≡ float_add lhs rhs }
-    {
+impl Add<Vec3> for f64 {
+    type Output = Vec3;
+
+    ghost add_gives = { λ a v r. r ≡ float_add a v };
+
+    fn add(self, rhs: Vec3) -> Vec3 {
         Vec3 {
-            x: lhs + rhs.x,
-            y: lhs + rhs.y,
-            z: lhs + rhs.z,
+            x: self + rhs.x,
+            y: self + rhs.y,
+            z: self + rhs.z,
         }
     }
+}
 
-    pub fn float_sub(lhs: f64, rhs: Vec3) -> Vec3
-        ensures { result ≡ float_sub lhs rhs }
-    {
+impl Sub<Vec3> for f64 {
+    type Output = Vec3;
+
+    ghost sub_gives = { λ a v r. r ≡ float_sub a v };
+
+    fn sub(self, rhs: Vec3) -> Vec3 {
         Vec3 {
-            x: lhs - rhs.x,
-            y: lhs - rhs.y,
-            z: lhs - rhs.z,
+            x: self - rhs.x,
+            y: self - rhs.y,
+            z: self - rhs.z,
         }
     }
+}
 
-    pub fn float_mul(lhs: f64, rhs: Vec3) -> Vec3
-        ensures { result ≡ float_mul lhs rhs }
-    {
+impl Mul<Vec3> for f64 {
+    type Output = Vec3;
+
+    ghost mul_gives = { λ a v r. r ≡ float_mul a v };
+
+    #[tactic(auto, unfolding(crate::specs::Vec3::float_mul))]
+    fn mul(self, rhs: Vec3) -> Vec3 {
         Vec3 {
-            x: lhs * rhs.x,
-            y: lhs * rhs.y,
-            z: lhs * rhs.z,
+            x: self * rhs.x,
+            y: self * rhs.y,
+            z: self * rhs.z,
         }
     }
+}
 
-    pub fn float_div(lhs: f64, rhs: Vec3) -> Vec3
-        ensures { result ≡ float_div lhs rhs }
-    {
+impl Div<Vec3> for f64 {
+    type Output = Vec3;
+
+    ghost div_gives = { λ a v r. r ≡ float_div a v };
+
+    fn div(self, rhs: Vec3) -> Vec3 {
         Vec3 {
-            x: lhs / rhs.x,
-            y: lhs / rhs.y,
-            z: lhs / rhs.z,
+            x: self / rhs.x,
+            y: self / rhs.y,
+            z: self / rhs.z,
         }
     }
 }

@@ -31,7 +31,7 @@ pub enum Sampled {
 pub fn reflect(wo: Vec3, n: Vec3) -> Option<Vec3>
     ensures { reflected result ≡ reflect wo n }
 {
-    let wi = Vec3::float_mul(2.0, wo.project_onto(n)).sub(wo);
+    let wi = 2.0 * wo.project_onto(n) - wo;
     if spherical_utils::same_hemisphere(wi, wo) {
         return Some(wi);
     }
@@ -47,12 +47,13 @@ pub fn refract(eta: f64, wo: Vec3, n: Vec3) -> Refracted
 }
 
 // `refract` with Snell's law and `cos_to`, which is `n.dot(wo)`, at hand.
+#[tactic(auto, unfolding(crate::specs::SharedTerms::refract_from))]
 pub fn refract_from(snell: Snell, cos_to: f64, wo: Vec3, n: Vec3) -> Refracted
     ensures { refracted result ≡ refract_from snell cos_to wo n }
 {
     // possibly flip the orientation if we are "inside"; `Snell::new` has turned the index
     if cos_to < 0.0 {
-        return refract_facing(snell, -cos_to, wo, n.negate());
+        return refract_facing(snell, -cos_to, wo, -n);
     }
     refract_facing(snell, cos_to, wo, n)
 }
@@ -66,8 +67,7 @@ fn refract_facing(snell: Snell, cos_to: f64, wo: Vec3, n: Vec3) -> Refracted
         return Refracted::Total;
     }
 
-    let along = wo.negate().div_float(snell.eta);
-    let wi = along.add(Vec3::float_mul(cos_to / snell.eta - snell.cos, n));
+    let wi = -wo / snell.eta + (cos_to / snell.eta - snell.cos) * n;
     if spherical_utils::same_hemisphere(wi, wo) {
         return Refracted::None;
     }
@@ -91,11 +91,12 @@ pub fn pdf(kind: Kind, mfd: Ggx, wo: Vec3, wi: Vec3, reflection: bool, eta: f64,
 }
 
 // orient MS normal to same side as geometric normal
+#[tactic(auto, unfolding(crate::specs::Density::on_z_side, numbers::specs::SphericalUtils::cos_theta))]
 fn on_z_side(wh: Vec3) -> Vec3
     ensures { result ≡ on_z_side wh }
 {
     if wh.z < 0.0 {
-        return wh.negate();
+        return -wh;
     }
     wh
 }

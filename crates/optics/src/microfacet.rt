@@ -372,6 +372,7 @@ impl Ggx {
     }
 
     // `wo` in the hemisphere's configuration, on the side of the geometric normal.
+    #[tactic(auto, unfolding(crate::specs::Sampler::viewed, crate::specs::Sampler::upright, crate::specs::Sampler::stretched))]
     fn viewed(self, wo: Vec3) -> Vec3
         ensures { result ≡ viewed self.roughness wo }
     {
@@ -382,7 +383,7 @@ impl Ggx {
         }
         .normalize();
         if stretched.z < 0.0 {
-            return stretched.negate();
+            return -stretched;
         }
         stretched
     }
@@ -445,13 +446,11 @@ fn on_hemisphere(v: Vec3, r: f64, c: f64, s: f64) -> Vec3
     }
 }
 
+#[tactic(auto, unfolding(crate::specs::Sampler::combined))]
 fn combined(u: Vec3, v: Vec3, wm: Vec3) -> Vec3
     ensures { result ≡ combined u v wm }
 {
-    let x = Vec3::float_mul(wm.x, u);
-    let y = Vec3::float_mul(wm.y, u.cross(v));
-    let z = Vec3::float_mul(wm.z, v);
-    x.add(y).add(z)
+    wm.x * u + wm.y * u.cross(v) + wm.z * v
 }
 
 pub fn chi_pass(wo: Vec3, wh: Vec3) -> bool
@@ -596,26 +595,29 @@ fn fr_complex_facing(cos_o: f64, eta: Complex) -> f64
     (r_par.norm_sqr() + r_per.norm_sqr()) / 2.0
 }
 
+#[tactic(auto, unfolding(crate::specs::Fresnel::complex_cos_i))]
 fn complex_cos_i(cos_o: f64, eta: Complex) -> Complex
     ensures { result ≡ complex_cos_i cos_o eta }
 {
     let sin2_o = 1.0 - cos_o * cos_o;
-    let sin2_i = Complex::float_div(sin2_o, eta.mul(eta));
-    Complex::float_sub(1.0, sin2_i).sqrt()
+    let sin2_i = sin2_o / (eta * eta);
+    (1.0 - sin2_i).sqrt()
 }
 
+#[tactic(auto, unfolding(crate::specs::Fresnel::r_par))]
 fn r_par(cos_o: f64, eta: Complex, cos_i: Complex) -> Complex
     ensures { result ≡ r_par cos_o eta cos_i }
 {
-    let o = eta.mul_float(cos_o);
-    o.sub(cos_i).div(o.add(cos_i))
+    let o = eta * cos_o;
+    (o - cos_i) / (o + cos_i)
 }
 
+#[tactic(auto, unfolding(crate::specs::Fresnel::r_per))]
 fn r_per(cos_o: f64, eta: Complex, cos_i: Complex) -> Complex
     ensures { result ≡ r_per cos_o eta cos_i }
 {
-    let i = eta.mul(cos_i);
-    Complex::float_sub(cos_o, i).div(Complex::float_add(cos_o, i))
+    let i = eta * cos_i;
+    (cos_o - i) / (cos_o + i)
 }
 
 pub fn fr_real(cos_o: f64, eta: f64) -> f64

@@ -20,14 +20,14 @@ pub fn replay(file: &mut File, number: u64, w: &[f64; 30]) -> bool {
         406 => same_float(file, Complex::norm(z)),
         407 => same_float(file, Complex::cos_half(z, c)),
         408 => same_float(file, Complex::sin_half(z, c)),
-        409 => same_complex(file, Complex::add(z, y)),
-        410 => same_complex(file, Complex::float_add(a, x)),
-        411 => same_complex(file, Complex::sub(z, y)),
-        412 => same_complex(file, Complex::float_sub(a, x)),
-        413 => same_complex(file, Complex::mul(z, y)),
-        414 => same_complex(file, Complex::mul_float(z, c)),
-        415 => same_complex(file, Complex::float_mul(a, x)),
-        416 => same_complex(file, Complex::div(z, y)),
+        409 => same_complex(file, z + y),
+        410 => same_complex(file, a + x),
+        411 => same_complex(file, z - y),
+        412 => same_complex(file, a - x),
+        413 => same_complex(file, z * y),
+        414 => same_complex(file, z * c),
+        415 => same_complex(file, a * x),
+        416 => same_complex(file, z / y),
         _ => replay2(file, number, w),
     }
 }
@@ -37,8 +37,8 @@ fn replay2(file: &mut File, number: u64, w: &[f64; 30]) -> bool {
     let b = w[1];
     let c = w[2];
     match number {
-        417 => same_complex(file, Complex::div_float(Complex::new(a, b), c)),
-        418 => same_complex(file, Complex::float_div(a, Complex::new(b, c))),
+        417 => same_complex(file, Complex::new(a, b) / c),
+        418 => same_complex(file, a / Complex::new(b, c)),
         _ => false,
     }
 }

@@ -17,15 +17,15 @@ pub fn replay(file: &mut File, number: u64, w: &[f64; 30]) -> bool {
         205 => same_vec2(file, Vec2::abs(a)),
         206 => same_vec2(file, Vec2::min(a, b)),
         207 => same_vec2(file, Vec2::max(a, b)),
-        208 => same_vec2(file, Vec2::negate(a)),
-        209 => same_vec2(file, Vec2::add(a, b)),
-        210 => same_vec2(file, Vec2::sub(a, b)),
-        211 => same_vec2(file, Vec2::mul(a, b)),
-        212 => same_vec2(file, Vec2::div(a, b)),
-        213 => same_vec2(file, Vec2::add_float(a, x)),
-        214 => same_vec2(file, Vec2::sub_float(a, x)),
-        215 => same_vec2(file, Vec2::mul_float(a, x)),
-        216 => same_vec2(file, Vec2::div_float(a, x)),
+        208 => same_vec2(file, -a),
+        209 => same_vec2(file, a + b),
+        210 => same_vec2(file, a - b),
+        211 => same_vec2(file, a * b),
+        212 => same_vec2(file, a / b),
+        213 => same_vec2(file, a + x),
+        214 => same_vec2(file, a - x),
+        215 => same_vec2(file, a * x),
+        216 => same_vec2(file, a / x),
         _ => replay2(file, number, w),
     }
 }
@@ -34,10 +34,10 @@ fn replay2(file: &mut File, number: u64, w: &[f64; 30]) -> bool {
     let x = w[0];
     let c = words::vec2(w, 1);
     match number {
-        217 => same_vec2(file, Vec2::float_add(x, c)),
-        218 => same_vec2(file, Vec2::float_sub(x, c)),
-        219 => same_vec2(file, Vec2::float_mul(x, c)),
-        220 => same_vec2(file, Vec2::float_div(x, c)),
+        217 => same_vec2(file, x + c),
+        218 => same_vec2(file, x - c),
+        219 => same_vec2(file, x * c),
+        220 => same_vec2(file, x / c),
         _ => false,
     }
 }

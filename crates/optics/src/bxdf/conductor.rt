@@ -61,10 +61,11 @@ pub fn pdf(wo: Vec3, wi: Vec3, mfd: Ggx) -> f64
 }
 
 // The normal that takes `wo` to `wi`.
+#[tactic(auto, unfolding(crate::specs::Density::conductor_half))]
 pub fn half(wo: Vec3, wi: Vec3) -> Vec3
     ensures { result ≡ conductor_half wo wi }
 {
-    bxdf::on_z_side(wo.add(wi).normalize())
+    bxdf::on_z_side((wo + wi).normalize())
 }
 
 // `pdf` with Λ(wo) and the normal that takes `wo` to `wi` at hand.

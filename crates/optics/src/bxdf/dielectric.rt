@@ -112,13 +112,14 @@ pub fn eta_ratio(reflection: bool, wo: Vec3, eta: f64) -> f64
 }
 
 // The normal that takes `wo` to `wi`.
+#[tactic(auto, unfolding(crate::specs::Density::dielectric_half))]
 pub fn half(eta: f64, ratio: f64, wo: Vec3, wi: Vec3) -> Vec3
     ensures { result ≡ dielectric_half eta ratio wo wi }
 {
     if eta == 1.0 {
         return bxdf::on_z_side(Vec3::Z);
     }
-    bxdf::on_z_side(wo.add(wi.mul_float(ratio)).normalize())
+    bxdf::on_z_side((wo + wi * ratio).normalize())
 }
 
 // `pdf` with Λ(wo), the index and the normal that takes `wo` to `wi` at hand.

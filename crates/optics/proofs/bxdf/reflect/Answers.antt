@@ -5,8 +5,8 @@ use Rattle.optics.proofs.bxdf.reflect.Goals as goal
 
 pub returns-then-same_hemisphere : goal.returns-then-same_hemisphere
 unfolding reflect mirrored reflected of_bits
-returns-then-same_hemisphere c = rw (← c.project_onto.ensures, ← c.float_mul.ensures, ← c.sub-wi.ensures, ← c.same_hemisphere.ensures, c.if-same_hemisphere.true)
+returns-then-same_hemisphere c = rw (← c.project_onto.ensures, ← c.mul.ensures, ← c.sub-wi.ensures, ← c.same_hemisphere.ensures, c.if-same_hemisphere.true)
 
 pub returns : goal.returns
 unfolding reflect mirrored reflected of_bits
-returns c = rw (← c.project_onto.ensures, ← c.float_mul.ensures, ← c.sub-wi.ensures, ← c.same_hemisphere.ensures, c.if-same_hemisphere.false)
+returns c = rw (← c.project_onto.ensures, ← c.mul.ensures, ← c.sub-wi.ensures, ← c.same_hemisphere.ensures, c.if-same_hemisphere.false)

@@ -11,8 +11,8 @@ returns-then-snell c = rw c.if-snell.true
 
 pub returns-then-same_hemisphere : goal.returns-then-same_hemisphere
 unfolding refract_facing_from is_total bent across_only refracted of_bits
-returns-then-same_hemisphere c = rw (c.if-snell.false, ← c.negate.ensures, ← c.div_float-along.ensures, ← c.float_mul.ensures, ← c.add-wi.ensures, ← c.same_hemisphere.ensures, c.if-same_hemisphere.true)
+returns-then-same_hemisphere c = rw (c.if-snell.false, ← c.neg.ensures, ← c.div.ensures, ← c.mul.ensures, ← c.add-wi.ensures, ← c.same_hemisphere.ensures, c.if-same_hemisphere.true)
 
 pub returns : goal.returns
 unfolding refract_facing_from is_total bent across_only refracted of_bits
-returns c = rw (c.if-snell.false, ← c.negate.ensures, ← c.div_float-along.ensures, ← c.float_mul.ensures, ← c.add-wi.ensures, ← c.same_hemisphere.ensures, c.if-same_hemisphere.false)
+returns c = rw (c.if-snell.false, ← c.neg.ensures, ← c.div.ensures, ← c.mul.ensures, ← c.add-wi.ensures, ← c.same_hemisphere.ensures, c.if-same_hemisphere.false)

@@ -1,7 +1,0 @@
--- `numbers::vec3::Vec3::max` meets its contract: the calls give what their contracts promise, and the definition is read in the same order.
-use Rattle.numbers.specs.Vec3.{max}
-use Rattle.numbers.proofs.vec3.Vec3.max.Goals as goal
-
-pub returns : goal.returns
-unfolding max
-returns c = rw (← c.max.ensures, ← c.max-2.ensures, ← c.max-3.ensures)
