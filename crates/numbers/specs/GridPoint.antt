@@ -6,17 +6,15 @@ use Rattle.std.specs.Float.Ieee.{eq}
 use Rattle.floats.specs.Float.{f0}
 use Rattle.numbers.specs.DenseSpectrum.{terminated, upper_point, upper_lambda, upper_weight, entry, interpolate}
 pub use Rattle.numbers.specs.declared.dense_spectrum.GridPoint.{GridPoint}
+use Rattle.numbers.specs.declared.dense_spectrum.GridPoint.TheVariants.{Ended, At, Between}
 
 unfoldable pub grid_point : Float → Float → GridPoint
-grid_point step lambda = record {
-  ended = eq lambda terminated;
-  exact = eq lambda (upper_lambda step lambda);
-  upper = upper_point step lambda;
-  weight = upper_weight step lambda;
-}
+grid_point step lambda =
+    cond (eq lambda terminated) Ended
+    (cond (eq lambda (upper_lambda step lambda)) (At (upper_point step lambda))
+    (Between (upper_point step lambda) (upper_weight step lambda)))
 
 unfoldable pub sample_from : List Float → GridPoint → Float
-sample_from values p =
-    cond p.ended f0
-    (cond p.exact (entry values p.upper)
-    (interpolate p.weight (entry values (p.upper - 1)) (entry values p.upper)))
+sample_from values Ended = f0
+sample_from values (At b1) = entry values b1
+sample_from values (Between upper weight) = interpolate weight (entry values (upper - 1)) (entry values upper)

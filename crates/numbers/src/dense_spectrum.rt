@@ -1,6 +1,6 @@
 // Spectra at equal steps of wavelength: lumo's src/tracer/color/dense_spectrum.rs. The entries are a
 // slice that the caller lends.
-ghost use Rattle.std.specs.Prelude.{◌≡◌, ◌-◌, false, T, pos, slice_index_or};
+ghost use Rattle.std.specs.Prelude.{◌≡◌, Bool, Float, false, T, pos, slice_index_or};
 ghost use Rattle.std.specs.Float.{nan, fin, binary64};
 ghost use Rattle.std.specs.Float.Ieee.{of_int, lt, eq};
 ghost use Rattle.floats.specs.Float.{f1};
@@ -46,14 +46,13 @@ impl DenseSpectrum {
         ensures { result ≡ is_constant values.now }
     {
         let first = entry(values, 0);
-        let n = values.len();
         // Where the last entry differs from the first, as it mostly does in a spectrum that varies, no pass is needed.
-        if 0 < n {
-            if first != values[n - 1] {
+        if let Some(last) = values.last() {
+            if first != *last {
                 return false;
             }
         }
-        all_equal(first, values)
+        all_entries(values, |value| first == value)
     }
 
     // Sample the dense spectrum at one wavelength `lambda`
@@ -68,39 +67,41 @@ impl DenseSpectrum {
     pub fn sample_from(values: &[f64], point: GridPoint) -> f64
         ensures { result ≡ sample_from values.now point }
     {
-        if point.ended {
-            return 0.0;
+        match point {
+            GridPoint::Ended => 0.0,
+            GridPoint::At(b1) => entry(values, b1),
+            GridPoint::Between { upper, weight } => {
+                let i0 = entry(values, upper.saturating_sub(1));
+                let i1 = entry(values, upper);
+                interpolate(weight, i0, i1)
+            }
         }
-        let b1 = point.upper;
-        if point.exact {
-            return entry(values, b1);
-        }
-        let i0 = entry(values, before(b1));
-        let i1 = entry(values, b1);
-        interpolate(point.weight, i0, i1)
     }
 }
 
 // Where a wavelength lies among the grid points, which is found once for spectra of one spacing that are
-// read at one wavelength: `ended` for one that was ended, `exact` at the wavelength of the entry `upper`, and
-// `weight` how far it lies from the entry before.
+// read at one wavelength: at none if it was ended, at the wavelength of an entry, or between the entry `upper`
+// and the one before, which lies `weight` below the wavelength.
 #[derive(Clone, Copy)]
-pub struct GridPoint {
-    pub ended: bool,
-    pub exact: bool,
-    pub upper: u64,
-    pub weight: f64,
+pub enum GridPoint {
+    Ended,
+    At(u64),
+    Between { upper: u64, weight: f64 },
 }
 
 impl GridPoint {
     pub fn new(step: f64, lambda: f64) -> GridPoint
         ensures { result ≡ grid_point step lambda }
     {
+        if lambda == 0.0 {
+            return GridPoint::Ended;
+        }
         let b1 = ceiling((lambda - LAMBDA_MIN) / step);
         let l1 = LAMBDA_MIN + step * b1.value;
-        GridPoint {
-            ended: lambda == 0.0,
-            exact: lambda == l1,
+        if lambda == l1 {
+            return GridPoint::At(b1.number);
+        }
+        GridPoint::Between {
             upper: b1.number,
             weight: (lambda - (l1 - step)) / step,
         }
@@ -175,24 +176,11 @@ fn any_ceiling(x: f64) -> u64
     0
 }
 
-// The number before `i`, and 0 before 0.
-fn before(i: u64) -> u64
-    ensures { result ≡ i - 1 }
-{
-    if i == 0 {
-        return 0;
-    }
-    i - 1
-}
-
 // The entry at `i`, and NaN past the end.
 pub fn entry(values: &[f64], i: u64) -> f64
     ensures { result ≡ slice_index_or values.now i nan }
 {
-    if i < values.len() as u64 {
-        return values[i as usize];
-    }
-    float::nan()
+    values.get(i as usize).copied().unwrap_or(float::nan())
 }
 
 fn interpolate(x1: f64, i0: f64, i1: f64) -> f64
@@ -202,45 +190,28 @@ fn interpolate(x1: f64, i0: f64, i1: f64) -> f64
     i0 * x0 + i1 * x1
 }
 
-// These loops test every entry, with no way out in between, so that the compiler tests two at a time: a pass
-// takes a third of the time.
-
-// Whether every entry equals `first`.
-fn all_equal(first: f64, values: &[f64]) -> bool
-    ensures { result ≡ every (eq first) values.now }
+// Whether the test holds of every entry. It is made of every entry, with no way out in between, so that the
+// compiler makes two at a time: a pass takes a third of the time.
+fn all_entries<F: Fn(f64) -> bool>(values: &[f64], holds: F) -> bool
+    requires { F.IsAlwaysCallable holds }
+    ensures { (p : Float → Bool) → ((x : Float) (r : Bool) → F.post holds x r → r ≡ p x) → result ≡ every p values.now }
 {
-    let mut ok = true;
-    let mut i = 0;
-    while i < values.len() {
-        ok &= first == values[i];
-        i += 1;
-    }
-    ok
+    values.iter().fold(true, |ok, value| ok & holds(*value))
 }
 
 // Whether every entry lies from `lo` to `hi`.
+#[tactic(auto, unfolding(crate::specs::DenseSpectrum::all_within))]
 pub fn all_within(values: &[f64], lo: f64, hi: f64) -> bool
     ensures { result ≡ all_within lo hi values.now }
 {
-    let mut ok = true;
-    let mut i = 0;
-    while i < values.len() {
-        ok &= float::within(lo, hi, values[i]);
-        i += 1;
-    }
-    ok
+    all_entries(values, |value| float::within(lo, hi, value))
 }
 
+#[tactic(auto, unfolding(crate::specs::DenseSpectrum::all_finite))]
 pub fn all_finite(values: &[f64]) -> bool
     ensures { result ≡ all_finite values.now }
 {
-    let mut ok = true;
-    let mut i = 0;
-    while i < values.len() {
-        ok &= float::is_finite(values[i]);
-        i += 1;
-    }
-    ok
+    all_entries(values, |value| float::is_finite(value))
 }
 
 // Whether there are as many entries as a table has.
