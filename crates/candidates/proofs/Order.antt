@@ -27,9 +27,7 @@ ready c f e =
     }
 
 pub asym : (a b : Candidate) → Ready a → Ready b → T (goes_before a b) → T (goes_before b a) → ⊥
-unfolding goes_before
 asym a b f g = lt_asym b.density a.density g.density f.density
 
 pub cotrans : (a b c : Candidate) → Ready a → Ready b → Ready c → T (goes_before a b) → (T (goes_before c b) → ⊥) → T (goes_before a c)
-unfolding goes_before
 cotrans a b c f g h = lt_cotrans a.density b.density c.density f.density g.density h.density

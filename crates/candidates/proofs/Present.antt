@@ -29,7 +29,6 @@ Unlike a b = a.candidate.id ≡ b.candidate.id → ⊥
 
 -- ---- who is among some ids: their order doesn't matter
 among_perm : (id : ℕ) {xs ys : List ℕ} → Permᴰ xs ys → is_among id xs ≡ is_among id ys
-unfolding is_among
 among_perm id Permᴰ.nil = refl
 among_perm id (Permᴰ.cons e d) = rw (e, among_perm id d)
 among_perm id (Permᴰ.swap {a = x} {b = y} {l = l} e f) = rw (← e, ← f) (turn (is_id id x) (is_id id y) (is_among id l))
@@ -44,7 +43,7 @@ check_perm d (arrival c) = rw (length-perm d, among_perm c.id d)
 check_perm d (departure id) = rw (among_perm id d)
 
 pub none_among : (p : Present) (ps : List Present) → (T (is_among p.candidate.id (ids ps)) → ⊥) → Every (Unlike p) ps
-unfolding Every is_among is_id
+unfolding Every
 none_among p [] n = tt
 none_among p (q ∷ qs) n =
     let this = is_id p.candidate.id q.candidate.id in
@@ -153,7 +152,7 @@ module _ (id : ℕ) where
 
   -- all the others stay, where one besides them has the id
   all_others : (p : Present) (ps : List Present) → T (has_id id p.candidate) → Every (Unlike p) ps → others id ps ≡ ps
-  unfolding Every others has_id is_id
+  unfolding Every others
   all_others p [] h u = refl
   all_others p (q ∷ qs) h u = go (eqb q.candidate.id id) refl (all_others p qs h u.1)
     where

@@ -2,14 +2,13 @@
 use mathlib.Core.Path.{refl}
 use lib.Ieee.{lt, le, eq, neg}
 use Rattle.floats.specs.Float.{is_finite}
-use Rattle.numbers.specs.Refusal.{refuse, ◌then◌}
 use Rattle.candidates.specs.Lists.{over}
-use Rattle.candidates.specs.Candidate.{is_density, check_candidate, goes_before, is_id, has_id}
-use Rattle.candidates.specs.Memory.{rows, listed, listed_ids, holding, is_among, check, insert, remove, changed, answer, unless_refused, left}
+use Rattle.candidates.specs.Candidate.{is_density, check_candidate}
+use Rattle.candidates.specs.Memory.{rows, listed, listed_ids, holding, check, insert, remove, changed, answer, unless_refused, left}
 use Rattle.candidates.specs.Samples.{Samples, left_by}
 
 pub samples : Samples
-unfolding lt le eq neg is_finite over is_density check_candidate goes_before is_id has_id rows listed listed_ids holding is_among check insert remove changed answer unless_refused left left_by
+unfolding lt le eq neg is_finite over is_density check_candidate rows listed listed_ids holding check insert remove changed answer unless_refused left left_by
 samples = record {
   full_and_listed = refl;
   full_and_below_zero = refl;

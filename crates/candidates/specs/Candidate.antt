@@ -15,13 +15,13 @@ unfoldable pub check_candidate : Candidate → Verdict
 check_candidate c = refuse 9 (is_density c.density)
 
 -- a goes before b, whichever arrived first: its density is greater by value, so that 0.0 and -0.0 are equal
-unfoldable pub goes_before : Candidate → Candidate → Bool
+abbrev pub goes_before : Candidate → Candidate → Bool
 goes_before a b = lt b.density a.density
 
-unfoldable pub is_id : ℕ → ℕ → Bool
+abbrev pub is_id : ℕ → ℕ → Bool
 is_id id x = eqb x id
 
-unfoldable pub has_id : ℕ → Candidate → Bool
+abbrev pub has_id : ℕ → Candidate → Bool
 has_id id c = is_id id c.id
 
 -- its numbers are values of binary64: every f64 is

@@ -1,7 +1,8 @@
 -- What a call answers and what it leaves in memory, for any memory that it finds (document 02, ii). Definitions only.
 -- What a list holds after calls that began with an empty one is said in Current.antt.
 use Rattle.std.specs.Prelude.{ℕ, ltb, length, take, Float}
-use mathlib.Core.{Path.◌≡◌, Bool.Bool, Bool.false, Bool.not, Bool.◌||◌, Bool.cond, List.List, List.[], List.◌∷◌, List.map}
+use mathlib.Core.{Path.◌≡◌, Bool.Bool, Bool.not, Bool.cond, List.List, List.[], List.◌∷◌, List.map}
+use Rattle.std.specs.List.{list_any}
 use Rattle.numbers.specs.Refusal.{Verdict, accepted, rejected, refuse, ◌then◌}
 use Rattle.candidates.specs.Lists.{over}
 use Rattle.candidates.specs.Candidate.{Candidate, check_candidate, goes_before, is_id, has_id}
@@ -56,9 +57,8 @@ pub data Call : Type 0 where
   arrival : Candidate → Call
   departure : ℕ → Call
 
-unfoldable pub is_among : ℕ → List ℕ → Bool
-is_among id [] = false
-is_among id (x ∷ ids) = is_id id x || is_among id ids
+abbrev pub is_among : ℕ → List ℕ → Bool
+is_among id ids = list_any (is_id id) ids
 
 -- what a call is refused for, in 02's order, by the ids of those that are present
 unfoldable pub check : List ℕ → Call → Verdict
@@ -94,10 +94,6 @@ unfoldable pub left : Memory → Call → Memory
 left m call = unless_refused (answer m call) m (holding m (changed call (listed m)))
 
 -- ---- contracts
--- the list cs was written over the columns
-abbrev pub Written : List Candidate → List ℕ → List Float → List ℕ → List Float → Type 0
-Written cs ids densities ids' densities' = (ids' ≡ column_over (λ c. c.id) cs ids) × (densities' ≡ column_over (λ c. c.density) cs densities)
-
 -- the contract of a call that finds m in memory, answers v and leaves m'
 abbrev pub Called : Memory → Call → Verdict → Memory → Type 0
 Called m call v m' = (v ≡ answer m call) × (m' ≡ left m call)

@@ -4,3 +4,4 @@
 pub mod candidate;
 mod columns;
 pub mod list;
+pub mod owned;
