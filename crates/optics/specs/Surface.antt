@@ -1,5 +1,5 @@
 -- A surface of metal or glass, what it may hold, and its spectra at a wavelength (document 01, "Records"; lumo's `MicrofacetConfig`). Definitions only.
-use Rattle.std.specs.Prelude.{ℕ, Float, pos, eqb, leb}
+use Rattle.std.specs.Prelude.{ℕ, Float, pos, eqb, leb, Result, Ok, Err}
 use mathlib.Core.{Bool.Bool, Bool.true, Bool.false, Bool.◌&&◌, Bool.◌||◌, Bool.cond, List.List}
 use Rattle.std.specs.Float.{fin}
 use Rattle.std.specs.Float.Ieee.{eq}
@@ -7,7 +7,7 @@ use Rattle.floats.specs.Float.{◌⊘◌, f0, f1, decimal, max, within}
 use Rattle.numbers.specs.DenseSpectrum.{step_of, is_table, one_spacing, terminated, entry, sample_one_at, is_constant, all_within}
 use Rattle.numbers.specs.Vec2.{splat}
 use Rattle.numbers.specs.declared.vec2.Vec2.{Vec2}
-pub use Rattle.optics.specs.declared.microfacet.{Kind.Kind, Kind.TheVariants.Metal, Kind.TheVariants.Glass, Surface.Surface}
+pub use Rattle.optics.specs.declared.microfacet.{Kind.Kind, Kind.TheVariants.Metal, Kind.TheVariants.Glass, UnknownKind.UnknownKind, Surface.Surface}
 
 -- ---- a kind's code, wherever a kind is a number: 0 metal, 1 glass (02 (vi) has the same)
 unfoldable pub kind_code : Kind → ℕ
@@ -20,6 +20,10 @@ is_kind_code code = leb code 1
 -- a number that is none reads as glass: who takes one refuses it
 unfoldable pub kind_of : ℕ → Kind
 kind_of code = cond (eqb code 0) Metal Glass
+
+-- the kind of a code, if it is one
+unfoldable pub kind_read : ℕ → Result Kind UnknownKind
+kind_read code = cond (is_kind_code code) (Ok (kind_of code)) (Err record {})
 
 -- What lies outside glass: a medium by its refraction index, the outer spectrum (02 (iv)). `air` is 01's, which has no spectrum; no code has it, and a spectrum of
 -- ones is the same (`InAir`, specs/Air.antt).

@@ -7,7 +7,7 @@ ghost use Rattle.numbers.specs.GridPoint.{sample_from};
 ghost use Rattle.optics.specs.Facets.{is_delta, lambda, chi_pass, g1, g, g_over_g1, d, sample_normal_pdf, f_schlick, disney_diffuse};
 ghost use Rattle.optics.specs.SharedTerms.{azimuth, chi_pass_at, g1_at, g_over_g1_at, sample_normal_pdf_at, snell, fr_real_from, fresnel_from, quotient_from, f_metal_from, f_glass_from};
 ghost use Rattle.optics.specs.Fresnel.{index_from, fr_real, complex_cos_i, r_par, r_per, fr_complex_facing, fr_complex, fresnel, f_at, f};
-ghost use Rattle.optics.specs.Surface.{kind_code, is_kind_code, kind_of, medium, eta_from, k_from, eta_at, k_at, quotient, index_on};
+ghost use Rattle.optics.specs.Surface.{kind_code, kind_read, medium, eta_from, k_from, eta_at, k_at, quotient, index_on};
 ghost use Rattle.optics.specs.Known.{known_on_glass};
 ghost use Rattle.optics.specs.Sampler.{viewed, tangent, on_hemisphere, combined, unstretched, sample_normal};
 
@@ -23,43 +23,39 @@ use std::marker::Model;
 
 pub const PI: f64 = 3.141592653589793;
 
-// Microfacet mirror (lumo's `MfConductor`) or microfacet glass (`MfDielectric`).
-#[derive(Clone, Copy)]
+// Microfacet mirror (lumo's `MfConductor`) or microfacet glass (`MfDielectric`). The number beside each is its code,
+// wherever a kind is a number: in C, in a file.
+#[derive(Clone, Copy, PartialEq, Eq, Debug)]
 pub enum Kind {
-    Metal,
-    Glass,
+    Metal = 0,
+    Glass = 1,
 }
 
-// A kind's code, wherever a kind is a number: in C, in a file.
-pub const METAL_CODE: u64 = 0;
+impl From<Kind> for u64 {
+    ghost from_gives = { λ kind code. code ≡ kind_code kind };
 
-pub const GLASS_CODE: u64 = 1;
-
-impl Kind {
-    pub fn code(self) -> u64
-        ensures { result ≡ kind_code self }
-    {
-        match self {
-            Kind::Metal => METAL_CODE,
-            Kind::Glass => GLASS_CODE,
-        }
+    #[tactic(auto, unfolding(crate::specs::Surface::kind_code))]
+    fn from(kind: Kind) -> u64 {
+        kind as u64
     }
+}
 
-    // Whether a number is a kind's code.
-    pub fn is_code(code: u64) -> bool
-        ensures { result ≡ is_kind_code code }
-    {
-        code <= GLASS_CODE
-    }
+// A number that is no kind's code.
+#[derive(Clone, Copy, PartialEq, Eq, Debug)]
+pub struct UnknownKind;
 
-    // The kind of a code. A number that is none reads as glass: who takes one refuses it.
-    pub fn of_code(code: u64) -> Kind
-        ensures { result ≡ kind_of code }
-    {
-        if code == METAL_CODE {
-            return Kind::Metal;
+impl TryFrom<u64> for Kind {
+    type Error = UnknownKind;
+
+    ghost try_from_gives = { λ code r. r ≡ kind_read code };
+
+    #[tactic(auto, unfolding(crate::specs::Surface::kind_read, crate::specs::Surface::kind_of))]
+    fn try_from(code: u64) -> Result<Kind, UnknownKind> {
+        match code {
+            0 => Ok(Kind::Metal),
+            1 => Ok(Kind::Glass),
+            _ => Err(UnknownKind),
         }
-        Kind::Glass
     }
 }
 
