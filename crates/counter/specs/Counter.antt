@@ -2,7 +2,7 @@
 use mathlib.Core.{Bool.Bool, List.List}
 use Rattle.std.specs.Prelude.{Float}
 use Rattle.floats.specs.Float.{is_finite}
-use Rattle.numbers.specs.Refusal.{number, refuse, ◌then◌, Answer, refused, given, ◌▷◌}
+use Rattle.numbers.specs.Refusal.{refuse, ◌then◌, Answer, refused, given, ◌▷◌}
 use Rattle.numbers.specs.Checked.{check_direction, check_wavelength, check_lookup}
 use Rattle.numbers.specs.declared.vec3.Vec3.{Vec3}
 use Rattle.optics.specs.declared.{color.Color.Color, microfacet.Kind.Kind, microfacet.Surface.Surface}
@@ -12,29 +12,13 @@ use Rattle.optics.specs.Facets as Facets
 use Rattle.optics.specs.Fresnel as Fresnel
 use Rattle.optics.specs.Sampler as Sampler
 use Rattle.optics.specs.Bxdf as Bxdf
-use Rattle.optics.specs.Bxdf.{Outgoing, direction, none, total}
+use Rattle.optics.specs.Bxdf.{Outgoing}
 use Rattle.optics.specs.Density as Density
-pub use Rattle.counter.specs.declared.{SurfaceAnswer.SurfaceAnswer, ColorAnswer.ColorAnswer, ReflectAnswer.ReflectAnswer, RefractAnswer.RefractAnswer}
 
--- ---- document 01's number and values for each case of the answers (those of numbers beside these)
-unfoldable pub surface_answer : SurfaceAnswer → Answer Surface
-surface_answer (SurfaceAnswer.Refused why) = refused (number why)
-surface_answer (SurfaceAnswer.Given s) = given s
-
-unfoldable pub color_answer : ColorAnswer → Answer Color
-color_answer (ColorAnswer.Refused why) = refused (number why)
-color_answer (ColorAnswer.Given a) = given a
-
-unfoldable pub reflect_answer : ReflectAnswer → Answer Outgoing
-reflect_answer (ReflectAnswer.Refused why) = refused (number why)
-reflect_answer (ReflectAnswer.Direction wi) = given (direction wi)
-reflect_answer ReflectAnswer.None = given none
-
-unfoldable pub refract_answer : RefractAnswer → Answer Outgoing
-refract_answer (RefractAnswer.Refused why) = refused (number why)
-refract_answer (RefractAnswer.Direction wi) = given (direction wi)
-refract_answer RefractAnswer.None = given none
-refract_answer RefractAnswer.Total = given total
+-- an answer with its value read otherwise: a mirror's and a bend's as an `Outgoing`
+abbrev pub map_answer : {A B : Type 0} → (A → B) → Answer A → Answer B
+map_answer f (refused n) = refused n
+map_answer f (given a) = given (f a)
 
 -- ---- making a surface
 unfoldable pub make_surface : Kind → Float → List Float → List Float → Outside → Answer Surface
