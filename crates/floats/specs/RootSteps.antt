@@ -5,29 +5,28 @@ use Rattle.std.specs.Float.{binary64}
 use Rattle.std.specs.Float.Ieee.{fits}
 use Rattle.std.specs.Float.Ieee.Positive.{positive}
 use Rattle.floats.specs.SquareRoot.{sqrt, Size}
-pub use Rattle.floats.specs.declared.square_root.Operand.{Operand}
 
 -- ---- the operand
 -- m has 53 or 54 binary digits and isn't 54 ones, whose nearest root would have a digit too many; h is from 1022 / 2,
 -- the least value's above 0, to 3119 / 2, the largest's
-abbrev pub InRange : Operand → Type 0
-InRange a = (2 ^ 52 ≤ a.m) × (a.m ≤ 2 ^ 54 - 2) × (511 ≤ a.h) × (a.h ≤ 1559)
+abbrev pub InRange : ℕ → ℕ → Type 0
+InRange m h = (2 ^ 52 ≤ m) × (m ≤ 2 ^ 54 - 2) × (511 ≤ h) × (h ≤ 1559)
 
--- a is the operand of d * 2 ^ e: this is m * 4 ^ h
-abbrev pub Placed : ℕ → ℕ → Operand → Type 0
-Placed d e a = InRange a × (d * 2 ^ e ≡ a.m * 4 ^ a.h)
+-- m and h are the operand of d * 2 ^ e: this is m * 4 ^ h
+abbrev pub Placed : ℕ → ℕ → ℕ → ℕ → Type 0
+Placed d e m h = d * 2 ^ e ≡ m * 4 ^ h
 
--- a is the operand of x, a finite value of binary64 above 0: x is n * 2 ^ -1074, which is m * 4 ^ h * 2 ^ -2148
-pub record Scaled (x : Float) (a : Operand) : Type 0 where
+-- m and h are the operand of x, a finite value of binary64 above 0: x is n * 2 ^ -1074, which is m * 4 ^ h * 2 ^ -2148
+pub record Scaled (x : Float) (m h : ℕ) : Type 0 where
   pub holds : T (fits binary64 x)
   pub above : T (positive x)
   pub n : ℕ
   pub size : Size x n
-  pub placed : Placed n 1074 a
+  pub placed : Placed n 1074 m h
 
 -- r is the root of the value that has this operand
-abbrev pub RootOf : Operand → Float → Type 0
-RootOf a r = (x : Float) → Scaled x a → r ≡ sqrt x
+abbrev pub RootOf : ℕ → ℕ → Float → Type 0
+RootOf m h r = (x : Float) → Scaled x m h → r ≡ sqrt x
 
 -- ---- the 53 digits
 -- q is the whole number nearest to the root of n, a number above 0: q - 1/2 < √n < q + 1/2, squared

@@ -1,6 +1,6 @@
 // IEEE 754's square root, correctly rounded, of every value: the processor's, and the same root by whole numbers alone,
 // digit by digit. There a finite value above 0 is scaled once, to an operand, before the first digit.
-ghost use Rattle.std.specs.Prelude.{◌≡◌, cond, ◌<◌, ◌≤◌, ◌+◌, ◌*◌, ◌^◌, T};
+ghost use Rattle.std.specs.Prelude.{◌≡◌, ◌<◌, ◌≤◌, ◌+◌, ◌*◌, ◌^◌, T};
 ghost use Rattle.std.specs.Float.Ieee.Positive.{positive};
 ghost use Rattle.floats.specs.Float.{max, f0};
 ghost use Rattle.floats.specs.SquareRoot.{sqrt};
@@ -11,61 +11,7 @@ ghost use Rattle.floats.specs.RootSteps.{InRange, Placed, Scaled, RootOf, Neares
 // and bits % HIDDEN the digits that are stored; a normal value has HIDDEN, its first digit, besides.
 const HIDDEN: u64 = 0x0010000000000000;
 
-// The pattern of the infinity.
-const INFINITY: u64 = 0x7ff0000000000000;
-
-// ---- the operand: a finite value above 0 is scaled once, before the first digit
-
-// A finite value above 0 is m * 4 ^ h times 2 ^ -2148, m being of 53 or 54 binary digits.
-#[derive(Clone, Copy)]
-struct Operand {
-    m: u64,
-    h: u64,
-}
-
-// How many binary digits a number lacks to have 53, which leave 11 of the 64 bits in front.
-fn lacking(t: u64) -> u64
-    requires { (0 < t) × (t < 2 ^ 52) }
-    ensures { (result ≤ 52) × (2 ^ 52 ≤ t * 2 ^ result) × (t * 2 ^ result < 2 ^ 53) }
-{
-    (u64::leading_zeros(t) - 11) as u64
-}
-
-// The operand of d * 2 ^ e times 2 ^ -2148, d being of 53 digits: an odd exponent gives it one more.
-fn placed(d: u64, e: u64) -> Operand
-    requires { (2 ^ 52 ≤ d) × (d < 2 ^ 53) × (1022 ≤ e) × (e ≤ 3119) }
-    ensures { Placed d e result }
-{
-    Operand {
-        m: d * (e % 2 + 1),
-        h: e / 2,
-    }
-}
-
-// The operand of a finite value above 0, by its bit pattern. In units of 2 ^ -2148 a normal value is
-// (t + HIDDEN) * 2 ^ (f + 1073), and a subnormal t * 2 ^ 1074, whose digits are shifted up to 53 at once.
-fn scale(x: f64) -> Operand
-    requires { T (positive x) }
-    ensures { Scaled x result }
-{
-    let bits = f64::to_bits(x);
-    let f = bits / HIDDEN;
-    let t = bits % HIDDEN;
-    if f == 0 {
-        let z = lacking(t);
-        return placed(t << z, 1074 - z);
-    }
-    placed(t + HIDDEN, f + 1073)
-}
-
-// ---- by digits: no branch depends on a digit, so that the time does not either
-
-// 1 for true: a digit with no branch.
-fn bit(b: bool) -> u64
-    ensures { (result ≤ 1) × (result ≡ cond b 1 0) }
-{
-    if b { 1 } else { 0 }
-}
+// ---- one digit: no branch depends on it, so that the time does not either
 
 // The root of the number that the bits taken so far form, and what its square leaves of it.
 #[derive(Clone, Copy)]
@@ -74,79 +20,123 @@ struct RootRem {
     rem: u64,
 }
 
-// One digit more, from two bits more. Nothing here wraps, even behind 56 digits, the most that 02 (iii) has.
-fn digit(root: u64, rem: u64, two: u64) -> RootRem
-    requires { (root < 2 ^ 56) × (rem ≤ 2 * root) × (two < 4) }
-    ensures { result ≡ digit root rem two }
-{
-    let x = 4 * rem + two;
-    let t = 4 * root + 1;
-    let c = bit(t <= x);
-    RootRem {
-        root: 2 * root + c,
-        rem: x - t * c,
+impl RootRem {
+    // One digit more, from two bits more. Nothing here wraps, even behind 56 digits, the most that 02 (iii) has.
+    fn digit(self, two: u64) -> Self
+        requires { (self.root < 2 ^ 56) × (self.rem ≤ 2 * self.root) × (two < 4) }
+        ensures { result ≡ digit self.root self.rem two }
+    {
+        let x = 4 * self.rem + two;
+        let t = 4 * self.root + 1;
+        let c = u64::from(t <= x);
+        RootRem {
+            root: 2 * self.root + c,
+            rem: x - t * c,
+        }
     }
 }
 
-// The two bits of m * 2 ^ 52 that the digit after i others takes, from the top: 27 pairs are m's own 54 bits, the
-// others zeros. m is only read, and is the same at every digit.
-fn two_bits(m: u64, i: u64) -> u64
-    requires { i < 53 }
-    ensures { result ≡ two_bits 53 (m * 2 ^ 52) i }
+// ---- the operand: a finite value above 0 is scaled once, before the first digit
+
+// How many binary digits a number lacks to have 53, which leave 11 of the 64 bits in front.
+fn lacking(t: u64) -> u64
+    requires { (0 < t) × (t < 2 ^ 52) }
+    ensures { (result ≤ 52) × (2 ^ 52 ≤ t * 2 ^ result) × (t * 2 ^ result < 2 ^ 53) }
 {
-    if i < 27 { (m >> (52 - 2 * i)) % 4 } else { 0 }
+    u64::from(t.leading_zeros() - 11)
 }
 
-// The whole root of m * 2 ^ 52, by its 53 binary digits, and the remainder.
-fn digits(m: u64) -> RootRem
-    requires { m < 2 ^ 54 }
-    ensures { result ≡ after 53 (m * 2 ^ 52) 53 }
-{
-    let mut s = RootRem { root: 0, rem: 0 };
-    let mut i: u64 = 0;
-    while i < 53 {
-        s = digit(s.root, s.rem, two_bits(m, i));
-        i += 1;
+// A finite value above 0 is m * 4 ^ h times 2 ^ -2148, m being of 53 or 54 binary digits.
+#[derive(Clone, Copy)]
+struct Operand {
+    m: u64,
+    h: u64,
+    ghost in_range: { InRange m h },
+}
+
+impl Operand {
+    // The operand of d * 2 ^ e times 2 ^ -2148, d being of 53 digits: an odd exponent gives it one more.
+    fn placed(d: u64, e: u64) -> Self
+        requires { (2 ^ 52 ≤ d) × (d < 2 ^ 53) × (1022 ≤ e) × (e ≤ 3119) }
+        ensures { Placed d e result.m result.h }
+    {
+        Operand {
+            m: d * (e % 2 + 1),
+            h: e / 2,
+        }
     }
-    s
-}
 
-// The whole number nearest to the root of m * 2 ^ 52: the whole root, or one more where the remainder is
-// above it, the root being past the middle then. No root is in the middle, whose square is no whole number.
-fn nearest(m: u64) -> u64
-    requires { (0 < m) × (m < 2 ^ 54) }
-    ensures { Nearest result (m * 2 ^ 52) }
-{
-    let s = digits(m);
-    s.root + bit(s.root < s.rem)
-}
+    // The operand of a finite value above 0, by its bit pattern. In units of 2 ^ -2148 a normal value is
+    // (t + HIDDEN) * 2 ^ (f + 1073), and a subnormal t * 2 ^ 1074, whose digits are shifted up to 53 at once.
+    fn of(x: f64) -> Self
+        requires { T (positive x) }
+        ensures { Scaled x result.m result.h }
+    {
+        let bits = x.to_bits();
+        let f = bits / HIDDEN;
+        let t = bits % HIDDEN;
+        if f == 0 {
+            let z = lacking(t);
+            Operand::placed(t << z, 1074 - z)
+        } else {
+            Operand::placed(t + HIDDEN, f + 1073)
+        }
+    }
 
-// The root of the value that has this operand: nearest(m) * 2 ^ (h - 26) times 2 ^ -1074. The exponent's field is
-// h - 25: the first of the 53 digits adds 1 to the h - 26 that is put there.
-fn root_of(a: Operand) -> f64
-    requires { InRange a }
-    ensures { RootOf a result }
-{
-    f64::from_bits((a.h - 26) * HIDDEN + nearest(a.m))
+    // The two bits of m * 2 ^ 52 that the digit after i others takes, from the top: 27 pairs are m's own 54 bits, the
+    // others zeros. m is only read, and is the same at every digit.
+    fn two_bits(self, i: u64) -> u64
+        requires { i < 53 }
+        ensures { result ≡ two_bits 53 (self.m * 2 ^ 52) i }
+    {
+        if i < 27 {
+            (self.m >> (52 - 2 * i)) % 4
+        } else {
+            0
+        }
+    }
+
+    // The whole root of m * 2 ^ 52, by its 53 binary digits, and the remainder.
+    fn digits(self) -> RootRem
+        ensures { result ≡ after 53 (self.m * 2 ^ 52) 53 }
+    {
+        let mut s = RootRem { root: 0, rem: 0 };
+        for i in 0..53 {
+            s = s.digit(self.two_bits(i));
+        }
+        s
+    }
+
+    // The whole number nearest to the root of m * 2 ^ 52: the whole root, or one more where the remainder is
+    // above it, the root being past the middle then. No root is in the middle, whose square is no whole number.
+    fn nearest(self) -> u64
+        ensures { Nearest result (self.m * 2 ^ 52) }
+    {
+        let s = self.digits();
+        s.root + u64::from(s.root < s.rem)
+    }
+
+    // The root of the value that has this operand: nearest * 2 ^ (h - 26) times 2 ^ -1074. The exponent's field is
+    // h - 25: the first of the 53 digits adds 1 to the h - 26 that is put there.
+    fn root(self) -> f64
+        ensures { RootOf self.m self.h result }
+    {
+        f64::from_bits((self.h - 26) * HIDDEN + self.nearest())
+    }
 }
 
 // The root of every value, by its digits alone.
 pub fn by_digits(x: f64) -> f64
     ensures { result ≡ sqrt x }
 {
-    if x != x {
-        return x;
+    if x < 0.0 {
+        f64::NAN
+    } else if x > 0.0 && x.is_finite() {
+        Operand::of(x).root()
+    } else {
+        // a zero, the infinity or a NaN, each its own root
+        x
     }
-    if x <= 0.0 {
-        if x < 0.0 {
-            return 0.0 / 0.0;
-        }
-        return x;
-    }
-    if x == f64::from_bits(INFINITY) {
-        return x;
-    }
-    root_of(scale(x))
 }
 
 // ---- the processor's root
@@ -164,10 +154,10 @@ pub fn sqrt_or_zero(x: f64) -> f64
     ensures { result ≡ sqrt (max x f0) }
 {
     if x > 0.0 {
-        return sqrt(x);
+        sqrt(x)
+    } else if x == 0.0 {
+        x
+    } else {
+        0.0
     }
-    if x == 0.0 {
-        return x;
-    }
-    0.0
 }

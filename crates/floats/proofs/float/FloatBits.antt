@@ -5,7 +5,7 @@ use Prim.Native.Nat.{ℕ, zero, suc, ◌+◌, ◌*◌, ◌/◌, ◌%◌, ◌≤�
 use native.Mathlib.Omega.{arith}
 use mathlib.Core.Bool.{Bool, true, false, not, cond, true≢false}
 use lib.Dec.{T, leb, eqb, eqb_refl}
-use lib.Ieee.{Float, nan, inf, fin, binary64, is_nan, ne, eq, lt, fits, to_bits, of_bits, of_fields, odd, nan_bits, up, down}
+use lib.Ieee.{Float, nan, inf, fin, binary64, is_nan, ne, fits, to_bits, of_bits, of_fields, odd, nan_bits, up, down}
 use borrow.Author.Tests.{lt-leb, leb-true, leb-false}
 use lib.Ieee.Compare.{differs_from_itself}
 use denote.Floats.{passes}

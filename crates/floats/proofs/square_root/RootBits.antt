@@ -2,27 +2,28 @@
 -- Proved: a value by its bit pattern (`bits_at`), and which patterns are no NaN's (`clean`);
 -- the digits of the root of m * 4 ^ h are the whole number nearest to the root of m * 2 ^ 52 (`root_at`, `nearest-pattern`);
 -- the root of a value by its units (`root_by_units`), and a value's size (`size_of`);
--- and the values that have no digits to compute (`nan_case`, `negative_case`, `zero_case`, `inf_case`).
+-- and the values that have no digits to compute (`negative_case`, `own_case`).
 use mathlib.Core.Path.{◌≡◌, refl, sym, ap, ◌∙◌, subst}
 use mathlib.Core.Logic.{inl, inr}
 use Prim.Native.Nat.{ℕ, zero, suc, ◌+◌, ◌-◌, ◌*◌, ◌/◌, ◌%◌, ◌^◌, ◌≤◌, ◌<◌}
-use native.Mathlib.Nat.{le_trans, lt_of_le_of_lt, lt_of_lt_of_le, lt_irrefl, mul_assoc, mul-le-mul_left, mul-le-mul_right, mul-le-mul, mul-pos, zero-lt-suc}
+use native.Mathlib.Nat.{le_trans, lt_of_le_of_lt, lt_of_lt_of_le, mul_assoc, mul-le-mul_left, mul-le-mul_right, mul-le-mul, mul-pos, zero-lt-suc}
 use native.Mathlib.Omega.{arith}
-use mathlib.Core.Bool.{Bool, true, false, not}
+use mathlib.Core.Bool.{Bool, true, false, not, true≢false}
 use lib.IntN.{ℤ, pos}
 use lib.Dec.{T, leb, eqb, ltb→lt, lt→ltb, eqb→eq, not_T, lit<, lit≤}
 use lib.Pow.{pow-add, pow_mono}
-use lib.Ieee.{Float, nan, inf, fin, Format, binary64, of_fields, of_bits, nan_bits, div, ne, le, lt, eq, fits, up, down}
-use lib.Ieee.Compare.{differs_from_itself}
+use lib.Ieee.{Float, nan, inf, fin, Format, binary64, of_fields, of_bits, nan_bits, lt, fits, up, down}
 use lib.Ieee.Positive.{positive}
-use lib.Ieee.Bits.{is_false, nan_bits_above, of_bits-fits}
+use lib.Ieee.Bits.{is_true, is_false, nan_bits_above, of_bits-fits}
 use lib.Arith.{lt→nleb, le→nltb}
 use lib.Ieee.Exact.{odd_sign}
 use lib.Ieee.Fits.{round-fits, up_pos}
+use Rattle.std.specs.Float.{float_is_finite}
+use Rattle.floats.proofs.float.FloatBits.{nan_pattern}
 use Rattle.floats.specs.SquareRoot.{isqrt, sticky, root_of_units, square_root, Size}
 use Rattle.floats.specs.RootSteps.{Nearest}
 use Rattle.floats.proofs.Rounding.{below_or_from}
-use Rattle.floats.proofs.Rounding.Units.{U, O, O_is, U_is, Is, mag, below→test, test→below, unique}
+use Rattle.floats.proofs.Rounding.Units.{U, O, O_is, U_is, Is, mag, unique}
 use Rattle.floats.proofs.Rounding.NonNegative.{none_below}
 use Rattle.floats.proofs.square_root.WholeRoot.{Root, isqrt-root, sq-lt, root_of_value, root_of_is, digits_of-root}
 use Rattle.floats.proofs.square_root.RootDigits.{four_two}
@@ -164,28 +165,13 @@ size_of (fin t m e) s n h = h.1
 size_of nan s n h = elim h [ ]
 size_of (inf _) s n h = elim h [ ]
 
--- ---- `by_digits`: the other values. 0.0 and the infinity stand there by their bit patterns
+-- ---- `by_digits`: the other values. 0.0 and NAN stand there by their bit patterns
 pub zero_bits : of_bits B 0 ≡ fin false 0 (pos 0)
 unfolding of_bits
 zero_bits = refl
 
-inf_bits : of_bits B inf_pattern ≡ inf false
-unfolding of_bits
-inf_bits = refl
-
 pub off : (b : Bool) → b ≡ false → T b → ⊥
 off b e t = subst T e t
-
-root-nan : square_root B nan ≡ nan
-unfolding square_root
-root-nan = refl
-
-pub nan_case : (x : Float) → ne x x ≡ true → x ≡ square_root B x
-nan_case x e = let n = differs_from_itself x (passes (ne x x) e) in n ∙ sym root-nan ∙ ap (λ (z : Float). square_root B z) (sym n)
-
-zero_over : div B (fin false 0 (pos 0)) (fin false 0 (pos 0)) ≡ nan
-unfolding div
-zero_over = refl
 
 pub below_zero : (x : Float) → T (lt x (fin false 0 (pos 0))) → nan ≡ square_root B x
 unfolding square_root lt
@@ -196,57 +182,37 @@ below_zero (fin false m e) t = absurd (none_below (m * up e * 1) (down e) (ltb�
 below_zero nan t = elim t [ ]
 below_zero (inf false) t = elim t [ ]
 
-pub negative_case : (x : Float) → lt x (of_bits B 0) ≡ true → div B (of_bits B 0) (of_bits B 0) ≡ square_root B x
-negative_case x e =
-    ap (λ (z : Float). div B z z) zero_bits
-    ∙ zero_over
-    ∙ below_zero x (subst (λ (z : Float). T (lt x z)) zero_bits (passes (lt x (of_bits B 0)) e))
+pub negative_case : (x : Float) → lt x (of_bits B 0) ≡ true → of_bits B 9221120237041090560 ≡ square_root B x
+negative_case x e = nan_pattern ∙ below_zero x (subst (λ (z : Float). T (lt x z)) zero_bits (passes (lt x (of_bits B 0)) e))
 
-at_zero : (x : Float) → T (le x (fin false 0 (pos 0))) → (T (lt x (fin false 0 (pos 0))) → ⊥) → x ≡ square_root B x
-unfolding square_root le lt
-at_zero (inf true) t n = absurd (n tt)
-at_zero (fin s zero e) t n = refl
-at_zero (fin true (suc m) e) t n =
-    absurd (n (lt→ltb 0 (suc m * up e * 1 + 0 * 1 * down e) (omega (arith, mul-pos (zero-lt-suc m) (up_pos e)))))
-at_zero (fin false (suc m) e) t n =
-    absurd (lt_irrefl 0 (lt_of_lt_of_le (mul-pos (zero-lt-suc m) (up_pos e))
-    (omega (arith, test→below false false (suc m * up e * 1) (0 * 1 * down e) t))))
-at_zero nan t n = elim t [ ]
-at_zero (inf false) t n = elim t [ ]
-
-pub zero_case : (x : Float) → le x (of_bits B 0) ≡ true → lt x (of_bits B 0) ≡ false → x ≡ square_root B x
-zero_case x e f =
-    at_zero x (subst (λ (z : Float). T (le x z)) zero_bits (passes (le x (of_bits B 0)) e))
-    (λ (t : T (lt x (fin false 0 (pos 0)))). off (lt x (of_bits B 0)) f (subst (λ (z : Float). T (lt x z)) (sym zero_bits) t))
-
-at_inf : (x : Float) → T (eq x (inf false)) → x ≡ square_root B x
-unfolding square_root eq
-at_inf (inf false) t = refl
-at_inf nan t = elim t [ ]
-at_inf (inf true) t = elim t [ ]
-at_inf (fin _ _ _) t = elim t [ ]
-
-pub inf_case : (x : Float) → eq x (of_bits B inf_pattern) ≡ true → x ≡ square_root B x
-inf_case x e = at_inf x (subst (λ (z : Float). T (eq x z)) inf_bits (passes (eq x (of_bits B inf_pattern)) e))
-
-else_positive : (x : Float) → (T (ne x x) → ⊥) → (T (le x (fin false 0 (pos 0))) → ⊥) → (T (eq x (inf false)) → ⊥) → T (positive x)
-unfolding ne le eq
-else_positive nan a b c = absurd (a tt)
-else_positive (inf true) a b c = absurd (b tt)
-else_positive (inf false) a b c = absurd (c tt)
-else_positive (fin true m e) a b c = absurd (b (neg-le m e))
+positive_of : (x : Float) → T (lt (fin false 0 (pos 0)) x) → float_is_finite x ≡ true → T (positive x)
+unfolding lt float_is_finite
+positive_of (fin false zero i) t e = absurd (none_above (down i) (up i) (ltb→lt (0 * 1 * down i) (0 * up i * 1) t))
   where
-    neg-le : (m : ℕ) (e : ℤ) → T (le (fin true m e) (fin false 0 (pos 0)))
-    neg-le m e = below→test true false (m * up e * 1) (0 * 1 * down e) (omega arith)
-else_positive (fin false zero e) a b c = absurd (b (below→test false false (0 * up e * 1) (0 * 1 * down e) (omega arith)))
-else_positive (fin false (suc m) e) a b c = lt→ltb 0 (suc m) (zero-lt-suc m)
+    none_above : (d u : ℕ) → 0 * 1 * d < 0 * u * 1 → ⊥
+    none_above d u h = omega arith
+positive_of (fin false (suc m) i) t e = lt→ltb 0 (suc m) (zero-lt-suc m)
+positive_of nan t e = elim t [ ]
+positive_of (inf s) t e = absurd (true≢false (sym e))
+positive_of (fin true m i) t e = elim t [ ]
 
-pub positive_case : (x : Float) → ne x x ≡ false → le x (of_bits B 0) ≡ false → eq x (of_bits B inf_pattern) ≡ false → T (positive x)
-positive_case x a b c =
-    else_positive x (off (ne x x) a)
-    (λ (t : T (le x (fin false 0 (pos 0)))). off (le x (of_bits B 0)) b (subst (λ (z : Float). T (le x z)) (sym zero_bits) t))
-    (λ (t : T (eq x (inf false))). off (eq x (of_bits B inf_pattern)) c (subst (λ (z : Float). T (eq x z)) (sym inf_bits) t))
+pub positive_case : (x : Float) → lt (of_bits B 0) x ≡ true → float_is_finite x ≡ true → T (positive x)
+positive_case x e = positive_of x (subst (λ (z : Float). T (lt z x)) zero_bits (passes (lt (of_bits B 0) x) e))
 
-pub inf_not_nan : T (not (nan_bits B inf_pattern))
-unfolding nan_bits
-inf_not_nan = tt
+-- a zero, the infinity and a NaN
+own : (x : Float) → (T (lt x (fin false 0 (pos 0))) → ⊥) → (T (lt (fin false 0 (pos 0)) x) → float_is_finite x ≡ true → ⊥) → x ≡ square_root B x
+unfolding square_root lt float_is_finite
+own nan a b = refl
+own (inf true) a b = absurd (a tt)
+own (inf false) a b = refl
+own (fin s zero e) a b = refl
+own (fin true (suc m) e) a b =
+    absurd (a (lt→ltb 0 (suc m * up e * 1 + 0 * 1 * down e) (omega (arith, mul-pos (zero-lt-suc m) (up_pos e)))))
+own (fin false (suc m) e) a b =
+    absurd (b (lt→ltb (0 * 1 * down e) (suc m * up e * 1) (omega (arith, mul-pos (zero-lt-suc m) (up_pos e)))) refl)
+
+pub own_case : (x : Float) → lt x (of_bits B 0) ≡ false → (lt (of_bits B 0) x ≡ true → float_is_finite x ≡ false) → x ≡ square_root B x
+own_case x e f =
+    own x (λ (t : T (lt x (fin false 0 (pos 0)))). off (lt x (of_bits B 0)) e (subst (λ (z : Float). T (lt x z)) (sym zero_bits) t))
+    (λ (t : T (lt (fin false 0 (pos 0)) x)) (g : float_is_finite x ≡ true).
+    true≢false (sym g ∙ f (is_true (lt (of_bits B 0) x) (subst (λ (z : Float). T (lt z x)) (sym zero_bits) t))))

@@ -9,6 +9,7 @@ use native.Mathlib.Omega.{arith}
 use mathlib.Core.Bool.{Bool, true, false, not, cond}
 use lib.Dec.{T, leb, ltb, leb→le, ltb→lt, nleb→lt, nltb→le, lit<}
 use lib.Pow.{pow-add, pow_pos, pow_mono}
+use Rattle.std.specs.Int.{from_bool}
 use Rattle.floats.specs.RootSteps.{Nearest}
 use Rattle.floats.specs.RootDigits.{RootRem, RootAndRemainder, EachDigit, root_rem, digit, two_bits, taken, after}
 
@@ -92,14 +93,11 @@ width k N (suc i) h l =
     twice r p q a b = omega arith
 
 -- ---- `digit`: the digit as a number
-pub bit_small : (t x c : ℕ) → c ≡ cond (leb t x) 1 0 → t * c ≤ x
-bit_small t x c = go (leb t x) (leb→le t x)
-  where
-    go : (b : Bool) → (T b → t ≤ x) → c ≡ cond b 1 0 → t * c ≤ x
-    go true f e = let l = f tt in rw e (omega arith)
-    go false f e = rw e (omega arith)
+pub one_bit : (c : ℕ) (b : Bool) → c ≡ from_bool b → c ≤ 1
+one_bit c true e = omega arith
+one_bit c false e = omega arith
 
-pub bit-digit : (root rem two c : ℕ) → c ≡ cond (leb (4 * root + 1) (4 * rem + two)) 1 0
+pub bit-digit : (root rem two c : ℕ) → c ≡ from_bool (leb (4 * root + 1) (4 * rem + two))
     → root_rem (2 * root + c) (4 * rem + two - (4 * root + 1) * c) ≡ digit root rem two
 unfolding digit
 bit-digit root rem two c = go (leb t x)
@@ -110,7 +108,7 @@ bit-digit root rem two c = go (leb t x)
     t : ℕ
     t = 4 * root + 1
 
-    go : (b : Bool) → c ≡ cond b 1 0 → root_rem (2 * root + c) (x - t * c) ≡ cond b (root_rem (2 * root + 1) (x - t)) (root_rem (2 * root) x)
+    go : (b : Bool) → c ≡ from_bool b → root_rem (2 * root + c) (x - t * c) ≡ cond b (root_rem (2 * root + 1) (x - t)) (root_rem (2 * root) x)
     go true e = rw e (ap (λ (z : ℕ). root_rem (2 * root + 1) (x - z)) (mul-one t))
     go false e = rw e (ap (λ (z : ℕ). root_rem z (x - t * 0)) (add-zero (2 * root)) ∙ ap (root_rem (2 * root)) (let k : x - t * 0 ≡ x = omega arith in k))
 
@@ -167,19 +165,22 @@ module _ (m i w : ℕ) (s : RootRem) (a : s ≡ after 53 (m * 2 ^ 52) i) (b : w 
       ∙ ap (digit (after 53 N i).root (after 53 N i).rem) b
       ∙ ap (after 53 N) (sym (add-one i))
 
+pub few_digits : (m : ℕ) (s : RootRem) → m < 2 ^ 54 → s ≡ after 53 (m * 2 ^ 52) 53 → s.root < 2 ^ 53
+few_digits m s h a = rw a (width 53 (m * 2 ^ 52) 53 (under m h) (omega arith))
+
 -- After the last digit all of m * 2 ^ 52 is taken: the nearest to its root is the whole root, and one more where the remainder is above it.
-pub last_digit : (m c : ℕ) (s : RootRem) → 0 < m → m < 2 ^ 54 → s ≡ after 53 (m * 2 ^ 52) 53 → c ≡ cond (ltb s.root s.rem) 1 0
+pub last_digit : (m c : ℕ) (s : RootRem) → 0 < m → m < 2 ^ 54 → s ≡ after 53 (m * 2 ^ 52) 53 → c ≡ from_bool (ltb s.root s.rem)
     → (s.root < 2 ^ 53) × Nearest (s.root + c) (m * 2 ^ 52)
 unfolding taken
 last_digit m c s p h a e =
     let N = m * 2 ^ 52 in
     let v : RootAndRemainder (N / 1) s = rw a (each_digit 53 N 53 (under m h) (omega arith)) in (
-      rw a (width 53 N 53 (under m h) (omega arith)),
+      few_digits m s h a,
       go s.root s.rem N (omega arith) (v.same ∙ div-one N) v.small (ltb s.root s.rem) (ltb→lt s.root s.rem)
           (nltb→le s.root s.rem) e,
     )
   where
-    go : (r s n : ℕ) → 0 < n → r * r + s ≡ n → s ≤ 2 * r → (b : Bool) → (T b → r < s) → (T (not b) → s ≤ r) → c ≡ cond b 1 0
+    go : (r s n : ℕ) → 0 < n → r * r + s ≡ n → s ≤ 2 * r → (b : Bool) → (T b → r < s) → (T (not b) → s ≤ r) → c ≡ from_bool b
         → Nearest (r + c) n
     go r s n q e k true f g d = let l = f tt in rw d (omega arith, omega arith)
     go zero s n q e k false f g d = absurd (omega arith)

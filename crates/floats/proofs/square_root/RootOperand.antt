@@ -1,6 +1,6 @@
 -- The operand of a value above 0, m * 4 ^ h, is the value's units times 2 ^ 1074.
 -- Proved: how many digits a subnormal lacks (`lacking_of`); d * 2 ^ e as m * 4 ^ h, by the parity of e (`placed_at`);
--- the units of a value from its bit pattern (`opened`), so that what `scale` returns is its operand
+-- the units of a value from its bit pattern (`opened`), so that what `of` returns is its operand
 -- (`subnormal_scaled`, `normal_scaled`); and the operand's root is the value's (`root_scaled`).
 use mathlib.Core.Path.{◌≡◌, refl, sym, ap, ◌∙◌, subst}
 use mathlib.Core.Logic.{◌⊎◌, inl, inr}
@@ -17,7 +17,7 @@ use lib.Ieee.Order.{drop, kept}
 use lib.Ieee.Positive.{positive}
 use lib.Ieee.Fits.{kept-lt}
 use Rattle.floats.specs.SquareRoot.{Size, root_of_units, square_root}
-use Rattle.floats.specs.RootSteps.{Operand, Placed, Scaled, RootOf}
+use Rattle.floats.specs.RootSteps.{Placed, Scaled, RootOf}
 use Rattle.floats.proofs.Rounding.{below_or_from}
 use Rattle.floats.proofs.Rounding.Units.{U, O_is, Is, mag, is_of, is_same, Held, pattern, bits_of, units_pos}
 use Rattle.floats.proofs.square_root.RootDigits.{four_two}
@@ -45,26 +45,21 @@ lacking_of t some few =
     )
 
 -- ---- `placed`: an odd exponent gives d a digit
-pub placed_at : (d e : ℕ) → 2 ^ 52 ≤ d → d < 2 ^ 53 → 1022 ≤ e → e ≤ 3119 → Placed d e (record { m = d * (e % 2 + 1); h = e / 2 })
-placed_at d e dl du l u = go (e % 2) refl (let k : e % 2 < 2 = omega arith in k)
+pub placed_at : (d e : ℕ) → Placed d e (d * (e % 2 + 1)) (e / 2)
+placed_at d e =
+    let p = e % 2 in
+    let h = e / 2 in
+    ap (λ (z : ℕ). d * 2 ^ z) (let c : e ≡ p + (h + h) = omega arith in c)
+    ∙ ap (λ (z : ℕ). d * z) (pow-add 2 p (h + h) ∙ ap (λ (z : ℕ). z * 2 ^ (h + h)) (few p (let c : p < 2 = omega arith in c)))
+    ∙ sym (mul_assoc d (p + 1) (2 ^ (h + h)))
+    ∙ ap (λ (z : ℕ). d * (p + 1) * z) (sym (four_two h))
   where
-    go : (p : ℕ) → e % 2 ≡ p → p < 2 → Placed d e (record { m = d * (p + 1); h = e / 2 })
-    go p q k =
-        let b = both p k in
-        let h = e / 2 in (
-          (b.0, b.1, omega arith, omega arith),
-          ap (λ (z : ℕ). d * 2 ^ z) (let c : e ≡ p + (h + h) = omega arith in c)
-              ∙ ap (λ (z : ℕ). d * z) (pow-add 2 p (h + h) ∙ ap (λ (z : ℕ). z * 2 ^ (h + h)) b.2)
-              ∙ sym (mul_assoc d (p + 1) (2 ^ (h + h)))
-              ∙ ap (λ (z : ℕ). d * (p + 1) * z) (sym (four_two h)),
-        )
-      where
-        both : (p : ℕ) → p < 2 → (2 ^ 52 ≤ d * (p + 1)) × (d * (p + 1) ≤ 2 ^ 54 - 2) × (2 ^ p ≡ p + 1)
-        both zero k = (omega arith, omega arith, refl)
-        both (suc zero) k = (omega arith, omega arith, refl)
-        both (suc (suc p)) k = absurd (let c : ⊥ = omega arith in c)
+    few : (p : ℕ) → p < 2 → 2 ^ p ≡ p + 1
+    few zero k = refl
+    few (suc zero) k = refl
+    few (suc (suc p)) k = absurd (let c : ⊥ = omega arith in c)
 
--- ---- `scale`: a number of units from the bit pattern
+-- ---- `of`: a number of units from the bit pattern
 pub record Unpacked (b n : ℕ) : Type 0 where
   pub some : 0 < n
   pub under : n < 2 ^ 2098
@@ -109,7 +104,7 @@ unpack n held p =
     (le_trans (le_of_eq (sym (pow-add 2 52 k))) (size_reaches n (52 + k) (omega arith))))
     (omega (arith, size-le n 2098 (subst (λ (z : ℕ). n < z) O_is held.1))) p (subst (λ (z : ℕ). n < z) O_is held.1)
 
--- what `scale` needs of x
+-- what `of` needs of x
 pub opened : (x : Float) → T (positive x) → T (fits B x)
     → Unpacked (to_bits B x) (mag x) × (square_root B x ≡ root_of_units B (mag x)) × T (not (is_nan x))
 unfolding is_nan
@@ -134,29 +129,29 @@ units_of (fin false zero e) p f = elim p [ ]
 units_of (fin mathlib.Core.Bool.true _ e) p f = elim p [ ]
 
 -- an operand of the units is one of x
-scaled_from : (x : Float) (d e : ℕ) (a : Operand) → T (positive x) → T (fits B x) → mag x * 2 ^ 1074 ≡ d * 2 ^ e → Placed d e a → Scaled x a
-scaled_from x d e a p f q w =
-    record { holds = f; above = p; n = mag x; size = size_of x false (mag x) (units_of x p f); placed = (w.0, q ∙ w.1) }
+scaled_from : (x : Float) (d e m h : ℕ) → T (positive x) → T (fits B x) → mag x * 2 ^ 1074 ≡ d * 2 ^ e → Placed d e m h → Scaled x m h
+scaled_from x d e m h p f q w =
+    record { holds = f; above = p; n = mag x; size = size_of x false (mag x) (units_of x p f); placed = q ∙ w }
 
 -- a subnormal's, its digits z places up
-pub subnormal_scaled : (x : Float) (z : ℕ) (a : Operand) → T (positive x) → T (fits B x) → to_bits B x / 2 ^ 52 ≡ 0 → z ≤ 52
-    → Placed (to_bits B x % 2 ^ 52 * 2 ^ z) (1074 - z) a → Scaled x a
-subnormal_scaled x z a p f q few w =
+pub subnormal_scaled : (x : Float) (z m h : ℕ) → T (positive x) → T (fits B x) → to_bits B x / 2 ^ 52 ≡ 0 → z ≤ 52
+    → Placed (to_bits B x % 2 ^ 52 * 2 ^ z) (1074 - z) m h → Scaled x m h
+subnormal_scaled x z m h p f q few w =
     let t = to_bits B x % 2 ^ 52 in
-    scaled_from x (t * 2 ^ z) (1074 - z) a p f
+    scaled_from x (t * 2 ^ z) (1074 - z) m h p f
     (ap (λ (y : ℕ). y * 2 ^ 1074) ((opened x p f).0.low q)
     ∙ ap (λ (y : ℕ). t * 2 ^ y) (let k : 1074 ≡ z + (1074 - z) = omega arith in k)
     ∙ ap (λ (y : ℕ). t * y) (pow-add 2 z (1074 - z))
     ∙ sym (mul_assoc t (2 ^ z) (2 ^ (1074 - z)))) w
 
 -- a normal value's
-pub normal_scaled : (x : Float) (a : Operand) → T (positive x) → T (fits B x) → (to_bits B x / 2 ^ 52 ≡ 0 → ⊥)
-    → Placed (to_bits B x % 2 ^ 52 + 2 ^ 52) (to_bits B x / 2 ^ 52 + 1073) a → Scaled x a
-normal_scaled x a p f q w =
+pub normal_scaled : (x : Float) (m h : ℕ) → T (positive x) → T (fits B x) → (to_bits B x / 2 ^ 52 ≡ 0 → ⊥)
+    → Placed (to_bits B x % 2 ^ 52 + 2 ^ 52) (to_bits B x / 2 ^ 52 + 1073) m h → Scaled x m h
+normal_scaled x m h p f q w =
     let b = to_bits B x in
     let d = b % 2 ^ 52 + 2 ^ 52 in
     let k = b / 2 ^ 52 - 1 in
-    scaled_from x d (b / 2 ^ 52 + 1073) a p f
+    scaled_from x d (b / 2 ^ 52 + 1073) m h p f
     (ap (λ (y : ℕ). y * 2 ^ 1074) ((opened x p f).0.high q)
     ∙ mul_assoc d (2 ^ k) (2 ^ 1074)
     ∙ ap (λ (y : ℕ). d * y) (sym (pow-add 2 k 1074) ∙ ap (λ (y : ℕ). 2 ^ y) (up_one (b / 2 ^ 52) (eq-zero-or-pos (b / 2 ^ 52)) q))) w
@@ -173,9 +168,9 @@ is_size lib.Ieee.nan n p h = elim p [ ]
 is_size (lib.Ieee.inf _) n p h = elim p [ ]
 is_size (fin mathlib.Core.Bool.true m e) n p h = elim p [ ]
 
-pub root_scaled : (a : Operand) (r : Float) → RootFrom a.m a.h r → RootOf a r
-root_scaled a r g x s =
+pub root_scaled : (m h : ℕ) (r : Float) → RootFrom m h r → RootOf m h r
+root_scaled m h r g x s =
     let same : s.n ≡ mag x =
     (is_same x false false s.n (mag x) (is_size x s.n s.above s.size) (units_of x s.above s.holds)).1 in
     let o = opened x s.above s.holds in
-    g (mag x) o.0.under (ap (λ (z : ℕ). z * 2 ^ 1074) (sym same) ∙ s.placed.1) ∙ sym o.1
+    g (mag x) o.0.under (ap (λ (z : ℕ). z * 2 ^ 1074) (sym same) ∙ s.placed) ∙ sym o.1

@@ -1,7 +1,6 @@
 -- `floats::float::signum` meets its contract: the sign bit over the pattern of 1.0 is that of 1 with the sign.
 use denote.Floats.{passes}
-use lib.Ieee.{is_nan}
-use Rattle.std.proofs.Common.{T, not, sym, ◌∙◌, arith}
+use Rattle.std.proofs.Common.{sym, ◌∙◌, arith}
 use Rattle.floats.proofs.float.FloatBits.{nan_signum, is_number, sign-digit, signum-bits, signum_not_nan}
 use Rattle.floats.proofs.float.signum.Goals as goal
 

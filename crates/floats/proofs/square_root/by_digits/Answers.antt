@@ -1,27 +1,19 @@
--- `by_digits` meets its contract: the values with no digits to compute, by RootBits, and `root_of` the operand for the others.
-use Rattle.floats.proofs.square_root.RootBits.{nan_case, negative_case, zero_case, inf_case, positive_case, inf_not_nan}
+-- `by_digits` meets its contract: by `root` of the operand, and by RootBits where a value has no digits to compute.
+use Rattle.std.proofs.Common.{sym, ◌∙◌, true≢false}
+use Rattle.floats.proofs.square_root.RootBits.{negative_case, positive_case, own_case}
+use Rattle.floats.proofs.square_root.by_digits.Goals.{else-x-2-via-then-x-2+else-is_finite, else-x-2-via-else-x-2}
 use Rattle.floats.proofs.square_root.by_digits.Goals as goal
 
 pub returns-then-x : goal.returns-then-x
-returns-then-x c = nan_case c.args.x c.if-x.true
+returns-then-x c = negative_case c.args.x c.if-x.true
 
-pub returns-then-x-3 : goal.returns-then-x-3
-returns-then-x-3 c = negative_case c.args.x c.if-x-3.true
+pub of-requires : goal.of-requires
+of-requires c = positive_case c.args.x c.if-x-2.true (sym c.is_finite.ensures.value ∙ c.if-is_finite.true)
 
-pub returns-then-x-2 : goal.returns-then-x-2
-returns-then-x-2 c = zero_case c.args.x c.if-x-2.true c.if-x-3.false
-
-pub float_from_bits-t-4 : goal.float_from_bits-t-4
-float_from_bits-t-4 c = inf_not_nan
-
-pub returns-then-x-4 : goal.returns-then-x-4
-returns-then-x-4 c = inf_case c.args.x c.if-x-4.true
-
-pub scale-requires : goal.scale-requires
-scale-requires c = positive_case c.args.x c.if-x.false c.if-x-2.false c.if-x-4.false
-
-pub root_of-requires : goal.root_of-requires
-root_of-requires c = c.scale.ensures.placed.0
-
-pub returns : goal.returns
-returns c = c.root_of.ensures c.args.x c.scale.ensures
+pub returns-else-x-2 : goal.returns-else-x-2
+returns-else-x-2 c =
+    own_case c.args.x c.if-x.false
+    (elim c.else-x-2.branch [
+      | else-x-2-via-then-x-2+else-is_finite w ↦ λ e. sym w.is_finite.ensures.value ∙ w.if-is_finite.false
+      | else-x-2-via-else-x-2 w ↦ λ e. absurd (true≢false (sym e ∙ w.if-x-2.false))
+    ])

@@ -1,12 +1,11 @@
 -- `sqrt_or_zero` meets its contract, by the three laws of RootOrZero.
-use mathlib.Core.Path.{sym, ap, ◌∙◌, subst}
-use lib.Dec.{T}
-use lib.Ieee.{Float, binary64, of_bits, lt, eq}
+use denote.Floats.{passes}
+use Rattle.std.proofs.Common.{T, Float, sym, ap, ◌∙◌, subst}
+use lib.Ieee.{binary64, of_bits, lt, eq}
 use Rattle.floats.specs.Float.{f0}
 use Rattle.floats.specs.SquareRoot.{sqrt}
 use Rattle.floats.proofs.square_root.RootBits.{zero_bits, off}
 use Rattle.floats.proofs.square_root.RootOrZero as root
-use denote.Floats.{passes}
 use Rattle.floats.proofs.square_root.sqrt_or_zero.Goals as goal
 
 pub returns-then-x : goal.returns-then-x
@@ -19,8 +18,8 @@ returns-then-x-2 c =
     let x = c.args.x in
     root.at_zero x (subst (λ (z : Float). T (eq x z)) zero_bits (passes (eq x (of_bits binary64 0)) c.if-x-2.true))
 
-pub returns : goal.returns
-returns c =
+pub returns-else-x-2 : goal.returns-else-x-2
+returns-else-x-2 c =
     let x = c.args.x in
     zero_bits
     ∙ root.below x
