@@ -1,8 +1,9 @@
 -- Document 01's starred samples about this crate (`Samples` of specs/Samples.antt), the like of the finer table (`FineSamples`), and
 -- roots that are known from elsewhere: each is computed from the definitions.
-use Rattle.std.proofs.Common.{◌≡◌, true, false, List, ◌∷◌, pos, negsuc, refl, ap}
+use Rattle.std.specs.Float.{fin, binary32, binary64}
+use Rattle.std.specs.Float.Ieee.{add, sub, mul, div, lt, le, eq, of_int, to_unsigned, to_bits}
+use Rattle.std.proofs.Common.{◌≡◌, true, false, List, ◌∷◌, pos, negsuc, refl, ap, Float}
 use lib.Ieee.Bits.{is_true}
-use lib.Ieee.{Float, fin, binary32, binary64, add, sub, mul, div, lt, le, eq, of_int, to_unsigned, to_bits}
 use Rattle.floats.specs.Float.{decimal, f0, f1, f2, within}
 use Rattle.floats.specs.SquareRoot.{square_root}
 use Rattle.numbers.specs.DenseSpectrum.{dense_step, fine_step, entry, sample_one, sample_one_at, upper_point, upper_lambda, upper_weight, ceiling, interpolate, is_lookup_wavelength, is_wavelength}

@@ -1,6 +1,5 @@
 -- A spectrum of entries at equal steps over the wavelengths of the model, and its lookup, in the order of operations of lumo's src/tracer/color/dense_spectrum.rs. Definitions only.
-use Rattle.std.specs.Prelude.{ℕ, ◌+◌, ◌-◌, length, pos, ◌==◌, slice_index_or, Float}
-use mathlib.Core.{Bool.Bool, Bool.true, Bool.false, Bool.◌&&◌, Bool.◌||◌, Bool.cond, List.List, List.[], List.◌∷◌}
+use Rattle.std.specs.Prelude.{ℕ, ◌+◌, ◌-◌, length, pos, ◌==◌, slice_index_or, Float, Bool, true, false, ◌&&◌, ◌||◌, cond, List, [], ◌∷◌}
 use Rattle.std.specs.Float.{nan, fin, binary64}
 use Rattle.std.specs.Float.Ieee.{to_unsigned, of_int, lt, eq}
 use Rattle.floats.specs.Float.{◌⊕◌, ◌⊖◌, ◌⊗◌, ◌⊘◌, f0, f1, f_1, within, is_finite}

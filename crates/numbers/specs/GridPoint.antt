@@ -1,7 +1,6 @@
 -- A lookup in two steps, so that spectra of one spacing which are read at one wavelength find its place among the grid points once: a form that serves speed alone.
 -- Read from that place, a spectrum gives what its lookup gives (`sample_from_point`, proofs/dense_spectrum/SampleFrom.antt). Definitions only.
-use Rattle.std.specs.Prelude.{◌-◌, Float}
-use mathlib.Core.{Bool.cond, List.List}
+use Rattle.std.specs.Prelude.{◌-◌, Float, cond, List}
 use Rattle.std.specs.Float.Ieee.{eq}
 use Rattle.floats.specs.Float.{f0}
 use Rattle.numbers.specs.DenseSpectrum.{terminated, upper_point, upper_lambda, upper_weight, entry, interpolate}

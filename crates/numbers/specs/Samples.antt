@@ -1,6 +1,5 @@
 -- Document 01's measured samples that are to be proved (marked * there), as far as they concern this crate: one conjunction. Definitions only; it is proved in proofs/Samples.antt.
-use mathlib.Core.{Path.◌≡◌, Bool.true, Bool.false, List.List, List.◌∷◌}
-use Rattle.std.specs.Prelude.{T, length, pos, negsuc, Float}
+use Rattle.std.specs.Prelude.{T, length, pos, negsuc, Float, ◌≡◌, true, false, List, ◌∷◌}
 use Rattle.std.specs.Float.{fin}
 use Rattle.floats.specs.Float.{f0, f1, f2, decimal}
 use Rattle.floats.specs.SquareRoot.{sqrt}

@@ -56,6 +56,7 @@ impl DenseSpectrum {
     }
 
     // Sample the dense spectrum at one wavelength `lambda`
+    #[tactic(auto, using(crate::proofs::dense_spectrum::SampleFrom::sample_from_point), unfolding(crate::specs::DenseSpectrum::sample_one))]
     pub fn sample_one(values: &[f64], lambda: f64) -> f64
         ensures { result ≡ sample_one values.now lambda }
     {
@@ -64,6 +65,7 @@ impl DenseSpectrum {
     }
 
     // The same, from the wavelength's place among the grid points.
+    #[tactic(auto, unfolding(crate::specs::GridPoint::sample_from))]
     pub fn sample_from(values: &[f64], point: GridPoint) -> f64
         ensures { result ≡ sample_from values.now point }
     {
@@ -190,13 +192,17 @@ fn interpolate(x1: f64, i0: f64, i1: f64) -> f64
     i0 * x0 + i1 * x1
 }
 
-// Whether the test holds of every entry. It is made of every entry, with no way out in between, so that the
-// compiler makes two at a time: a pass takes a third of the time.
+// Whether the test holds of every entry. The loop has no way out, so that the compiler tests several entries at a
+// time: a pass takes a third of the time that `all` would. A `fold` took a tenth more than this.
 fn all_entries<F: Fn(f64) -> bool>(values: &[f64], holds: F) -> bool
     requires { F.IsAlwaysCallable holds }
     ensures { (p : Float → Bool) → ((x : Float) (r : Bool) → F.post holds x r → r ≡ p x) → result ≡ every p values.now }
 {
-    values.iter().fold(true, |ok, value| ok & holds(*value))
+    let mut ok = true;
+    for value in values {
+        ok &= holds(*value);
+    }
+    ok
 }
 
 // Whether every entry lies from `lo` to `hi`.
@@ -215,6 +221,7 @@ pub fn all_finite(values: &[f64]) -> bool
 }
 
 // Whether there are as many entries as a table has.
+#[tactic(auto, unfolding(crate::specs::DenseSpectrum::is_table))]
 pub fn is_table(values: &[f64]) -> bool
     ensures { result ≡ is_table values.now }
 {
@@ -236,6 +243,7 @@ pub fn is_wavelength(lambda: f64) -> bool
 }
 
 // Whether a lookup accepts the wavelength: 0, which stands for one that was ended, as well.
+#[tactic(auto, unfolding(crate::specs::DenseSpectrum::is_lookup_wavelength))]
 pub fn is_lookup_wavelength(lambda: f64) -> bool
     ensures { result ≡ is_lookup_wavelength lambda }
 {

@@ -1,14 +1,34 @@
--- What holds of every entry of a list: with one entry more at its end (`every-push`), of each entry (`entry-every`), and not where one fails (`every_fails`).
-use Rattle.std.proofs.Common.{◌≡◌, ℕ, zero, suc, ◌+◌, ◌<◌, ◌≤◌, Bool, true, false, ◌&&◌, T, List, [], ◌∷◌, ◌++◌, length, get_or, sym, refl, ap, ◌∙◌, zero-le, not-le_of_lt, arith}
+-- What holds of every entry of a list, entry by entry: the steps of a loop that tests them all, for any test.
+-- What a loop has found of the entries before i decides together with the rest (`Rest`): it does at first (`rest-start`), with each entry more
+-- (`rest-next`), and at the end alone (`rest_ends`).
+use Rattle.std.proofs.Common.{◌≡◌, ℕ, zero, suc, ◌+◌, ◌<◌, ◌≤◌, Bool, true, false, ◌&&◌, T, List, [], ◌∷◌, length, get_or, drop, sym, refl, ap, ◌∙◌, zero-le, not-le_of_lt, add-one, arith, drop-cons, Float}
 use mathlib.Core.Bool.{and-true, and-false, and_assoc}
-use lib.Ieee.{Float}
+use lib.Seq.{drop-length}
 use lib.Ieee.Fits.{and_l, and_r}
 use Rattle.numbers.specs.DenseSpectrum.{every, entry}
 
-pub every-push : (p : Float → Bool) (vs : List Float) (x : Float) → every p (vs ++ (x ∷ [])) ≡ every p vs && p x
-unfolding every
-every-push p [] x = and-true (p x)
-every-push p (v ∷ vs) x = ap (λ (b : Bool). p v && b) (every-push p vs x) ∙ sym (and_assoc (p v) (every p vs) (p x))
+abbrev pub Rest : (Float → Bool) → List Float → ℕ → Bool → Type 0
+Rest p s i ok = (i ≤ length s) × ((ok && every p (drop i s)) ≡ every p s)
+
+module _ (p : Float → Bool) (s : List Float) where
+  pub rest-start : Rest p s 0 true
+  rest-start = (omega arith, refl)
+
+  -- the rest from i on is the entry at i and the rest from i + 1 on
+  unroll : (i : ℕ) (d : Float) → i < length s → every p (drop i s) ≡ p (get_or s i d) && every p (drop (i + 1) s)
+  unfolding every
+  unroll i d l = rw (add-one i, drop-cons s i d l)
+
+  pub rest-next : (i : ℕ) (ok : Bool) (d : Float) → Rest p s i ok → i < length s → Rest p s (i + 1) (ok && p (get_or s i d))
+  rest-next i ok d r l =
+      let rest = every p (drop (i + 1) s) in
+      (omega arith, and_assoc ok (p (get_or s i d)) rest ∙ sym (ap (λ (b : Bool). ok && b) (unroll i d l)) ∙ r.1)
+
+  pub rest_ends : (i : ℕ) (ok : Bool) → Rest p s i ok → length s ≤ i → every p s ≡ ok
+  unfolding every
+  rest_ends i ok r l =
+      let e : i ≡ length s = omega arith in
+      sym r.1 ∙ ap (λ (j : ℕ). ok && every p (drop j s)) e ∙ ap (λ (b : List Float). ok && every p b) (drop-length s) ∙ and-true ok
 
 -- an entry of a list whose every entry passes a test passes it
 pub entry-every : (p : Float → Bool) (values : List Float) (i : ℕ) → T (every p values) → i < length values → T (p (entry values i))

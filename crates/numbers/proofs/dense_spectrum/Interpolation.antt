@@ -2,10 +2,11 @@
 -- Proved: the entries that `sample_one_at` reads exist, between grid points there is one on either side, and the weight of the upper one is from 0 to 1 (`place_of`);
 -- where all entries are from lo to hi, the value lies in that range up to one part in 2 ^ 50 (`sample_nearly`); with entries from 0.01 to 100 it is from 1 / 128 to 128 (`sample_index`, for any such grid `sample_index_at`), which is inside the range of an index (`read_index`). A table's length leads to its grid (`table_of`, `table_place`).
 -- A wavelength from 256 on is a multiple of 2 ^ -44, so one that is above a grid point is that far above, and the quotient by the step does not round down onto the point's index.
-use Rattle.std.proofs.Common.{◌≡◌, ℕ, zero, suc, ◌+◌, ◌-◌, ◌*◌, ◌/◌, ◌^◌, ◌<◌, ◌≤◌, Bool, true, false, cond, ◌||◌, T, eqb, List, length, pos, sym, refl, ap, ◌∙◌, subst, inl, inr, zero-le, le_trans, le_of_eq, le_refl, lt_of_lt_of_le, lt_of_le_of_lt, le_of_lt, lt_irrefl, mul-le-mul_right, mul_assoc, mul_comm, div-lt_iff_lt-mul, le_antisymm, lt_of_mul-lt-mul_right, mul-le-mul_left, mul-lt-mul_of_pos_right, mul-pos, one-mul, mul-zero, zero-mul, not-le_of_lt, le_of_mul-le-mul_right, arith, lit<, lit≤, eqb→eq, pow_pos, pow_mono, pow-add}
+use Rattle.std.specs.Float.{fin, Format, binary64}
+use Rattle.std.specs.Float.Ieee.{up, down, size, of_int, le, lt, eq, fits}
+use Rattle.std.proofs.Common.{◌≡◌, ℕ, zero, suc, ◌+◌, ◌-◌, ◌*◌, ◌/◌, ◌^◌, ◌<◌, ◌≤◌, Bool, true, false, cond, ◌||◌, T, eqb, List, length, pos, sym, refl, ap, ◌∙◌, subst, inl, inr, zero-le, le_trans, le_of_eq, le_refl, lt_of_lt_of_le, lt_of_le_of_lt, le_of_lt, lt_irrefl, mul-le-mul_right, mul_assoc, mul_comm, div-lt_iff_lt-mul, le_antisymm, lt_of_mul-lt-mul_right, mul-le-mul_left, mul-lt-mul_of_pos_right, mul-pos, one-mul, mul-zero, zero-mul, not-le_of_lt, le_of_mul-le-mul_right, arith, lit<, lit≤, eqb→eq, pow_pos, pow_mono, pow-add, Float}
 use mathlib.Core.Bool.{beq}
 use mir.Facts.{or_yes}
-use lib.Ieee.{Float, fin, Format, binary64, up, down, size, of_int, le, lt, eq, fits}
 use lib.Ieee.Digits.{size-le, back}
 use lib.Ieee.Fits.{and_i, and_l, and_r, eq→eqb, add-fits, div-fits}
 use lib.Ieee.Order.{drop, kept}

@@ -1,9 +1,7 @@
 -- A spectrum read from a wavelength's grid point gives what its lookup gives (`sample_from_point`): by the tests of the two, which are the same.
 use Rattle.std.proofs.Common.{◌≡◌, Bool, true, false, cond, List, refl}
 use Rattle.std.specs.Prelude.{Float}
-use Rattle.std.specs.Float.Ieee.{eq}
-use Rattle.floats.specs.Float.{f0}
-use Rattle.numbers.specs.DenseSpectrum.{sample_one_at, terminated, upper_lambda}
+use Rattle.numbers.specs.DenseSpectrum.{sample_one_at}
 use Rattle.numbers.specs.GridPoint.{GridPoint, grid_point, sample_from}
 
 -- a read from the point that a test chooses is the chosen read

@@ -1,8 +1,9 @@
 -- The least whole number from x up, without a cast: what `small_ceiling` computes is it (`near_of`).
 -- From 2 ^ 52 on doubles are the whole numbers, so that the sum of x and 2 ^ 52 - 1/2 is rounded to one. Less 2 ^ 52 that is an n with
 -- n ≤ x ≤ n + 1, and it is found in the last digits of the sum's pattern.
-use Rattle.std.proofs.Common.{◌≡◌, ℕ, ◌+◌, ◌-◌, ◌*◌, ◌/◌, ◌^◌, ◌<◌, ◌≤◌, true, false, not, T, pos, negsuc, sym, refl, ap, ◌∙◌, subst, inl, le_trans, le_of_eq, lt_of_lt_of_le, lt_of_le_of_lt, le_of_lt, mul-le-mul_right, le_antisymm, lt_of_mul-lt-mul_right, mul-lt-mul_of_pos_right, mul-pos, le_of_mul-le-mul_right, mul-div_cancel, arith, lit<, lit≤}
-use lib.Ieee.{Float, inf, fin, Format, binary64, size, of_int, to_bits, is_nan, add, sub, lt, fits}
+use Rattle.std.specs.Float.{inf, fin, Format, binary64}
+use Rattle.std.specs.Float.Ieee.{size, of_int, to_bits, is_nan, add, sub, lt, fits}
+use Rattle.std.proofs.Common.{◌≡◌, ℕ, ◌+◌, ◌-◌, ◌*◌, ◌/◌, ◌^◌, ◌<◌, ◌≤◌, true, false, not, T, pos, negsuc, sym, refl, ap, ◌∙◌, subst, inl, le_trans, le_of_eq, lt_of_lt_of_le, lt_of_le_of_lt, le_of_lt, mul-le-mul_right, le_antisymm, lt_of_mul-lt-mul_right, mul-lt-mul_of_pos_right, mul-pos, le_of_mul-le-mul_right, mul-div_cancel, arith, lit<, lit≤, Float}
 use lib.Ieee.Digits.{size-le}
 use lib.Ieee.Fits.{add-fits, sub-fits, of_int-fits}
 use lib.Ieee.Order.{drop, kept}

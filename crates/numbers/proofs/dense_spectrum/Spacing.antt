@@ -1,7 +1,6 @@
 -- What the number of entries tells of a spectrum. Proved: its step (`dense_step_lem`, `fine_step_lem`), and that of two spectra of one spacing both are tables
 -- or neither (`shared_table`), with one step (`shared_step`), since the definitions read nothing but that number.
-use Rattle.std.proofs.Common.{◌≡◌, ℕ, cond, ◌||◌, T, eqb, List, length, ap, subst, eqb→eq}
-use lib.Ieee.{Float}
+use Rattle.std.proofs.Common.{◌≡◌, ℕ, cond, ◌||◌, T, eqb, List, length, ap, subst, eqb→eq, Float}
 use Rattle.numbers.specs.DenseSpectrum.{dense_samples, dense_step, fine_samples, fine_step, step_of, is_table, one_spacing}
 
 abbrev step_for : ℕ → Float

@@ -1,10 +1,11 @@
 -- Whole numbers as doubles, and the least one from a value up.
 -- Proved: a binary64 number below 2 ^ 64 has a whole part below 2 ^ 64 - 1, so that one more still fits (`room`): a number of more than 53 digits is even;
 -- and `ceiling` by units, up to 2 ^ 52 (`ceiling_is`).
-use Rattle.std.proofs.Common.{◌≡◌, ℕ, zero, suc, ◌+◌, ◌-◌, ◌*◌, ◌/◌, ◌^◌, ◌<◌, ◌≤◌, Bool, true, false, cond, not, ◌&&◌, T, ltb, ℤ, pos, negsuc, sym, refl, ap, subst, true≢false, le_trans, le_of_eq, lt_of_lt_of_le, lt_of_le_of_lt, mul-le-mul_right, lt_of_mul-lt-mul_right, mul-lt-mul_of_pos_right, mul-pos, zero-mul, div-le_self, div-mul-le_self, le_of_mul-le-mul_right, arith, lit<, lit≤, ltb→lt, lt→ltb, nltb→le}
+use Rattle.std.specs.Float.{nan, inf, fin, Format, binary64}
+use Rattle.std.specs.Float.Ieee.{up, down, of_int, to_unsigned, lt, fits}
+use Rattle.std.proofs.Common.{◌≡◌, ℕ, zero, suc, ◌+◌, ◌-◌, ◌*◌, ◌/◌, ◌^◌, ◌<◌, ◌≤◌, Bool, true, false, cond, not, ◌&&◌, T, ltb, ℤ, pos, negsuc, sym, refl, ap, subst, true≢false, le_trans, le_of_eq, lt_of_lt_of_le, lt_of_le_of_lt, mul-le-mul_right, lt_of_mul-lt-mul_right, mul-lt-mul_of_pos_right, mul-pos, zero-mul, div-le_self, div-mul-le_self, le_of_mul-le-mul_right, arith, lit<, lit≤, ltb→lt, lt→ltb, nltb→le, Float}
 use Prim.Native.Nat.pow
 use native.Mathlib.Nat.{min-le_left, min-eq_left, lt-div-mul-add}
-use lib.Ieee.{Float, nan, inf, fin, Format, binary64, up, down, of_int, to_unsigned, lt, fits}
 use lib.Ieee.Fits.{and_i, down_pos}
 use Rattle.floats.specs.Float.{f_1}
 use Rattle.floats.proofs.Rounding.{rnd, rnd_fix}

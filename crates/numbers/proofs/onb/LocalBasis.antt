@@ -1,8 +1,7 @@
 -- The parts of a direction in the basis around a normal, both within document 01's limit on a direction.
 -- Proved: the local parts are finite and at most 8 in size (`local_tame`), and one local part is at least 1 / 16 (`local_large`).
 -- The last by contradiction: an identity of polynomials gives S times a factor near 1 from the three parts and the errors, all small, so S is small; then the direction's own parts are, and their squares do not add up to 1.
-use Rattle.std.proofs.Common.{◌≡◌, ℕ, zero, suc, ◌+◌, ◌*◌, ◌/◌, ◌^◌, ◌<◌, ◌≤◌, Bool, true, false, T, ◌⊎◌, List, [], ◌∷◌, get_or, sym, refl, ap, ◌∙◌, subst, inl, inr, le_trans, le_of_eq, lt_of_le_of_lt, lt_irrefl, mul-le-mul_right, mul-le-mul_left, mul-pos, arith, lit<, lit≤, pow_pos}
-use lib.Ieee.{Float}
+use Rattle.std.proofs.Common.{◌≡◌, ℕ, zero, suc, ◌+◌, ◌*◌, ◌/◌, ◌^◌, ◌<◌, ◌≤◌, Bool, true, false, T, ◌⊎◌, List, [], ◌∷◌, get_or, sym, refl, ap, ◌∙◌, subst, inl, inr, le_trans, le_of_eq, lt_of_le_of_lt, lt_irrefl, mul-le-mul_right, mul-le-mul_left, mul-pos, arith, lit<, lit≤, pow_pos, Float}
 use Rattle.floats.proofs.Rounding.{below_or_from}
 use Rattle.floats.proofs.Rounding.Units.{U, U_pos, sign}
 use Rattle.floats.proofs.Rounding.Error.{Fin, unit_fin}

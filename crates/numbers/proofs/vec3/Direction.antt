@@ -1,8 +1,9 @@
 -- What document 01's limit on a direction tells of its parts, and the slope of the basis around it.
 -- Proved: a vector of binary64 values that `is_direction` accepts has finite parts below 1 + 2 ^ -13 (`parts_of`), and the exact sum of their squares is 1 within 2 ^ -18 (`unit_norm`);
 -- the slope -1 / (sgn + z) is finite, and its product with the divisor is -1 within 2 ^ -50 (`slope_of`). The parts from the order of rounded sums, the rest from Expression and the error of the quotient.
-use Rattle.std.proofs.Common.{◌≡◌, ℕ, ◌+◌, ◌-◌, ◌*◌, ◌/◌, ◌^◌, ◌<◌, ◌≤◌, Bool, true, false, T, ◌⊎◌, List, [], ◌∷◌, pos, negsuc, sym, refl, ap, ◌∙◌, subst, inl, inr, zero-le, le_trans, le_of_eq, le_refl, lt_of_le_of_lt, lt_irrefl, mul-le-mul_right, mul_comm, mul-le-mul, mul-le-mul_left, mul-pos, not-le_of_lt, le_of_mul-le-mul_right, arith, lit<, lit≤}
-use lib.Ieee.{Float, nan, inf, fin, Format, binary64, add, mul, le, fits}
+use Rattle.std.specs.Float.{nan, inf, fin, Format, binary64}
+use Rattle.std.specs.Float.Ieee.{add, mul, le, fits}
+use Rattle.std.proofs.Common.{◌≡◌, ℕ, ◌+◌, ◌-◌, ◌*◌, ◌/◌, ◌^◌, ◌<◌, ◌≤◌, Bool, true, false, T, ◌⊎◌, List, [], ◌∷◌, pos, negsuc, sym, refl, ap, ◌∙◌, subst, inl, inr, zero-le, le_trans, le_of_eq, le_refl, lt_of_le_of_lt, lt_irrefl, mul-le-mul_right, mul_comm, mul-le-mul, mul-le-mul_left, mul-pos, not-le_of_lt, le_of_mul-le-mul_right, arith, lit<, lit≤, Float}
 use lib.Ieee.Fits.{and_l, and_r}
 use Rattle.floats.proofs.Rounding.{rnd, Near, rnd_fix, rnd-mono, rnd_idem, below_or_from}
 use Rattle.floats.proofs.Rounding.Units.{U, O, U_pos, is_of, sign, mag, add-nan}

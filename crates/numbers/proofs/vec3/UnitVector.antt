@@ -1,8 +1,8 @@
 -- A vector divided by its computed length, `normalize`.
 -- Proved (`unit_of`): where the sum of the squares is from 2 ^ -80 to 2 ^ 60, the length is finite and above 0, each part of the result is finite and at most 1 + 2 ^ -47 in size, and the sum of their squares is 1 within 2 ^ -46.
 -- Over ℕ, sizes in units and squares in units of units: the computed sum, its root, and the three quotients, each with its error; then the floats.
-use Rattle.std.proofs.Common.{◌≡◌, ℕ, zero, suc, ◌+◌, ◌-◌, ◌*◌, ◌^◌, ◌<◌, ◌≤◌, false, ◌⊎◌, ap, ◌∙◌, subst, inl, inr, le_trans, le_of_eq, lt_of_lt_of_le, lt_of_le_of_lt, lt_irrefl, mul-le-mul_right, mul_assoc, mul_comm, mul-le-mul, mul-le-mul_left, mul-pos, not-le_of_lt, le_of_mul-le-mul_right, arith, lit<, lit≤}
-use lib.Ieee.{Float, Format, binary64}
+use Rattle.std.specs.Float.{Format, binary64}
+use Rattle.std.proofs.Common.{◌≡◌, ℕ, zero, suc, ◌+◌, ◌-◌, ◌*◌, ◌^◌, ◌<◌, ◌≤◌, false, ◌⊎◌, ap, ◌∙◌, subst, inl, inr, le_trans, le_of_eq, lt_of_lt_of_le, lt_of_le_of_lt, lt_irrefl, mul-le-mul_right, mul_assoc, mul_comm, mul-le-mul, mul-le-mul_left, mul-pos, not-le_of_lt, le_of_mul-le-mul_right, arith, lit<, lit≤, Float}
 use lib.Ieee.Fits.{add-fits}
 use Rattle.floats.proofs.Rounding.{rnd, Near, rnd_whole, rnd_all, below_or_from}
 use Rattle.floats.proofs.Rounding.Units.{U, O, U_pos, Is, is_of, sign, mag}

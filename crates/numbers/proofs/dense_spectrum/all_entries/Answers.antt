@@ -1,14 +1,14 @@
--- `numbers::dense_spectrum::all_entries` meets its contract: the fold has found what holds of every entry that it has passed.
-use Rattle.std.proofs.Common.{◌≡◌, Bool, true, ◌&&◌, refl, sym, subst, ap, ◌∙◌, rules}
-use Rattle.std.specs.Prelude.{Float}
-use Rattle.std.proofs.lemmas.Fn.{fold_over, slice_gives, fronts}
-use Rattle.numbers.specs.DenseSpectrum.{every}
-use Rattle.numbers.proofs.dense_spectrum.Every.{every-push}
+-- `numbers::dense_spectrum::all_entries` meets its contract: what was found of the entries so far decides together with the rest.
+use Rattle.std.proofs.Common.{sym, arith}
+use Rattle.std.specs.Float.{nan}
+use Rattle.numbers.proofs.dense_spectrum.Every.{rest-start, rest-next, rest_ends}
 use Rattle.numbers.proofs.dense_spectrum.all_entries.Goals as goal
 
+pub loop-value-init : goal.loop-value-init
+loop-value-init g c = λ p acts. rest-start _ _
+
+pub loop-value-preserved : goal.loop-value-preserved
+loop-value-preserved g c = let l = c.loop-value in λ p acts. rw (acts _ _ c.holds-ok.ensures) (rest-next _ _ l.value-index l.ok nan (l.invariant p acts) (omega arith))
+
 pub returns : goal.returns
-unfolding every
-returns g c = λ p acts.
-    subst (λ vs. c.fold.result ≡ every p vs) c.iter.ensures.rest
-    (fold_over fronts (λ y. y.now) _ (λ vs ok. ok ≡ every p vs) _ (λ vs a x b f' j k. let more = every-push p vs x.now in search rules)
-    _ _ _ _ (slice_gives c.iter.result) refl c.fold.ensures.ran)
+returns g c = let l = c.loop-value in λ p acts. sym (rest_ends _ _ l.value-index l.ok (l.invariant p acts) (omega arith))

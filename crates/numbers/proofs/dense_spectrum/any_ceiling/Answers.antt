@@ -1,5 +1,6 @@
 -- `numbers::dense_spectrum::any_ceiling` meets its contract: the tests are what the cast asks of its argument, and one more than the whole part still fits.
-use lib.Ieee.{binary64, fits, neg, of_bits}
+use Rattle.std.specs.Float.{binary64}
+use Rattle.std.specs.Float.Ieee.{fits, neg, of_bits}
 use Rattle.numbers.specs.DenseSpectrum.{ceiling}
 use Rattle.numbers.proofs.dense_spectrum.WholePart.{room}
 use denote.Floats.{passes}

@@ -1,6 +1,7 @@
 -- `numbers::dense_spectrum::ceiling` meets its contract: by the test that is taken, and what the call for it gives.
+use Rattle.std.specs.Float.{binary64}
+use Rattle.std.specs.Float.Ieee.{of_bits, of_int}
 use Rattle.std.proofs.Common.{ℕ, pos, ap, ◌∙◌}
-use lib.Ieee.{binary64, of_bits, of_int}
 use denote.Floats.{passes}
 use Rattle.numbers.proofs.dense_spectrum.ceiling.Goals as goal
 

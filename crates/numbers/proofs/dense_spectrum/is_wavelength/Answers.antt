@@ -1,5 +1,5 @@
 -- `numbers::dense_spectrum::is_wavelength` meets its contract: the calls give what their contracts promise, and the definition is read in the same order.
-use lib.Ieee.{of_bits}
+use Rattle.std.specs.Float.Ieee.{of_bits}
 use Rattle.numbers.specs.DenseSpectrum.{is_wavelength}
 use Rattle.numbers.proofs.dense_spectrum.is_wavelength.Goals as goal
 

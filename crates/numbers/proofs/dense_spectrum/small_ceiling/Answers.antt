@@ -1,6 +1,6 @@
 -- `numbers::dense_spectrum::small_ceiling` meets its contract, by `near_of` of SmallCeiling; no difference or sum of patterns wraps.
+use Rattle.std.specs.Float.Ieee.{of_bits}
 use Rattle.std.proofs.Common.{Bool, not, T, sym, subst}
-use lib.Ieee.{of_bits}
 use Rattle.numbers.proofs.dense_spectrum.SmallCeiling.{near_of}
 use denote.Floats.{passes}
 use Rattle.numbers.proofs.dense_spectrum.small_ceiling.Goals as goal

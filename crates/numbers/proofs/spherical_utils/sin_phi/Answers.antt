@@ -1,5 +1,5 @@
 -- `numbers::spherical_utils::sin_phi` meets its contract: the calls give what their contracts promise, and the definition is read in the same order.
-use lib.Ieee.{of_bits, neg}
+use Rattle.std.specs.Float.Ieee.{of_bits, neg}
 use Rattle.numbers.specs.SphericalUtils.{sin_phi}
 use Rattle.numbers.proofs.spherical_utils.sin_phi.Goals as goal
 

@@ -1,5 +1,5 @@
 -- `numbers::complex::Complex::sin_half` meets its contract: the calls give what their contracts promise, and the definition is read in the same order.
-use lib.Ieee.{of_bits}
+use Rattle.std.specs.Float.Ieee.{of_bits}
 use Rattle.numbers.specs.Complex.{sin_half}
 use Rattle.numbers.proofs.complex.Complex.sin_half.Goals as goal
 

@@ -1,8 +1,9 @@
 -- `numbers::dense_spectrum::DenseSpectrum::is_constant` meets its contract: where the last entry is another than the first, not every entry equals it
 -- (`every_fails`); else the test of all decides.
+use Rattle.std.proofs.lemmas.Bool.{not-true}
+use Rattle.std.specs.Float.{nan}
+use Rattle.std.specs.Float.Ieee.{ne}
 use Rattle.std.proofs.Common.{◌-◌, length, sym, arith, rules}
-use lib.Ieee.{nan, ne}
-use borrow.Author.Tests.{not-true}
 use Rattle.numbers.specs.DenseSpectrum.{is_constant}
 use Rattle.numbers.proofs.dense_spectrum.Every.{every_fails}
 use Rattle.numbers.proofs.dense_spectrum.DenseSpectrum.is_constant.Goals as goal

@@ -1,5 +1,5 @@
 -- `numbers::dense_spectrum::DenseSpectrum::step` meets its contract: each answer is the definition's, by the test on the way.
-use lib.Ieee.{of_bits}
+use Rattle.std.specs.Float.Ieee.{of_bits}
 use Rattle.std.proofs.Common.{eq-eqb, ne_eqb}
 use Rattle.numbers.specs.DenseSpectrum.{step_of}
 use Rattle.numbers.proofs.dense_spectrum.DenseSpectrum.step.Goals as goal

@@ -1,5 +1,5 @@
 -- `numbers::dense_spectrum::GridPoint::new` meets its contract: by the two tests, from the grid point that is found first.
-use lib.Ieee.{of_bits}
+use Rattle.std.specs.Float.Ieee.{of_bits}
 use Rattle.numbers.specs.DenseSpectrum.{upper_point, upper_lambda, upper_weight}
 use Rattle.numbers.specs.GridPoint.{grid_point}
 use Rattle.numbers.proofs.dense_spectrum.GridPoint.new.Goals as goal

@@ -1,5 +1,5 @@
 -- `numbers::onb::Onb::new` meets its contract: the calls give what their contracts promise, and the definition is read in the same order.
-use lib.Ieee.{of_bits, neg}
+use Rattle.std.specs.Float.Ieee.{of_bits, neg}
 use Rattle.numbers.specs.Onb.{basis, slope, skew}
 use Rattle.numbers.proofs.onb.Onb.new.Goals as goal
 

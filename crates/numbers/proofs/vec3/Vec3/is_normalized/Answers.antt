@@ -1,5 +1,5 @@
 -- `numbers::vec3::Vec3::is_normalized` meets its contract: the calls give what their contracts promise, and the definition is read in the same order.
-use lib.Ieee.{of_bits}
+use Rattle.std.specs.Float.Ieee.{of_bits}
 use Rattle.floats.specs.Float.{epsilon, decimal}
 use Rattle.numbers.specs.Vec3.{is_normalized}
 use Rattle.numbers.proofs.vec3.Vec3.is_normalized.Goals as goal
