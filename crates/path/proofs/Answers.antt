@@ -4,11 +4,14 @@ use Rattle.std.proofs.Common.{◌≡◌, ℕ, Bool, true, false, List, [], ◌�
 use Rattle.numbers.specs.Refusal.{number, Verdict, accepted, rejected, ◌then◌, refuse}
 use Rattle.numbers.specs.declared.refusal.Refusal.{Refusal}
 use Rattle.numbers.specs.declared.refusal.Refusal.TheVariants as W
-use Rattle.optics.specs.Surface.{Microsurface}
+use Rattle.optics.specs.Color.{all4}
+use Rattle.optics.specs.Surface.{Microsurface, roughness_holds, eta_holds, k_holds, outer_holds}
+use Rattle.numbers.specs.Vec3.{is_direction}
 use Rattle.optics.specs.Bxdf.{Scattered, scattered, totally}
 use Rattle.optics.specs.Bxdf as Bxdf
 use Rattle.numbers.specs.Checked.{check_direction}
-use Rattle.optics.specs.Check.{check_spectra, check_surface, check_random, check_circle_pair}
+use Rattle.optics.specs.Check.{check_spectra, check_surface, check_random, check_circle_pair, is_random, is_circle_pair}
+use Rattle.path.specs.Path.{is_path_lambda, is_power, is_filter}
 use Rattle.path.specs.declared.records.Path.{Path}
 use Rattle.path.specs.declared.records.Bounce.{Bounce}
 use Rattle.path.specs.declared.records.Bounced.{Bounced}
@@ -33,22 +36,16 @@ one why false = (why, refl)
 known : (p : Path) (m : Microsurface) (b : Bounce) → Known (check_bounce p m b)
 unfolding check_bounce check_rest check_surface check_spectra check_direction check_random check_circle_pair number
 known p m b =
-    both _ _ (both _ _ (one W.Roughness _) (both _ _ (both _ _ (one W.Eta _) (one W.K _)) (one W.Outer _)))
-    (both _ _
-    (both _ _
-    (both _ _
-    (both _ _
-    (both _ _
-    (both _ _
-    (both _ _
-    (both _ _ (one W.Wavelength _) (one W.Power _))
-    (one W.Direction _))
-    (one W.Direction _))
-    (one W.RandomNumber _))
-    (one W.RandomNumber _))
-    (one W.CirclePair _))
-    (one W.Filter _))
-    (one W.Filter _))
+    both _ _ (both _ _ (one W.Roughness (roughness_holds m.roughness)) (both _ _ (both _ _ (one W.Eta (eta_holds m.eta)) (one W.K (k_holds m.kind m.eta m.k))) (one W.Outer (outer_holds m.kind m.eta m.outside))))
+    (both _ _ (both _ _ (both _ _ (both _ _ (both _ _ (both _ _ (both _ _ (both _ _ (one W.Wavelength (is_path_lambda p.lambda))
+    (one W.Power (all4 is_power p.power)))
+    (one W.Direction (is_direction b.wo)))
+    (one W.Direction (is_direction b.normal)))
+    (one W.RandomNumber (is_random b.u)))
+    (one W.RandomNumber (is_random b.disk)))
+    (one W.CirclePair (is_circle_pair b.c b.s)))
+    (one W.Filter (all4 is_filter b.ks)))
+    (one W.Filter (all4 is_filter b.tf)))
 
 -- ---- an answer for every bounce
 pub answers : Answered

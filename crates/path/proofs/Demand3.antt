@@ -1,7 +1,7 @@
 -- Demand 3 of the contract (`Demand3` of specs/Demand3.antt): for every path that starts with powers 1.0 and every list of bounces on it, after every bounce each power is a number from 0 to what it was
 -- and equals the reckoning's to the last bit, on glass the shares lie from 0 to 1 and add up to exactly 1.0, and each density handed out is finite and not below 0.
 -- By induction on the list: a path whose powers are numbers from 0 to 1 (`Ready`) goes to such a path, since each weight is a number from 0 to 1.
-use Rattle.std.proofs.Common.{◌≡◌, Bool, true, false, cond, ◌&&◌, T, List, sym, refl, ◌∙◌, subst, inl, le_refl, lt_of_le_of_lt}
+use Rattle.std.proofs.Common.{◌≡◌, Some, None, Bool, true, false, cond, ◌&&◌, T, List, sym, refl, ◌∙◌, subst, inl, le_refl, lt_of_le_of_lt}
 use lib.Ieee.{Float, fits, le}
 use lib.Ieee.Fits.{and_l, and_r}
 use Rattle.floats.specs.Float.{f0, f1, within, is_finite}
@@ -22,7 +22,6 @@ use Rattle.optics.proofs.Spectra.{all_fit}
 use Rattle.optics.proofs.Outer.{outer_fit}
 use Rattle.path.specs.declared.records.Path.{Path}
 use Rattle.path.specs.declared.records.Bounce.{Bounce}
-use Rattle.path.specs.declared.records.Density.TheVariants as D
 use Rattle.optics.specs.Color.{all4}
 use Rattle.path.specs.Path.{path, ones, leading, terminate, is_filter, weighed}
 use Rattle.path.specs.Bounce.{advanced, check_bounce, left_on_glass, left_on, lambda_on, local_wo, share, scatter, weights_from, weights}
@@ -153,7 +152,7 @@ module _ (p : Path) (m : Microsurface) (b : Bounce) (r : Ready p) (h : Given p m
       x : Float
       x = pdf m (local_wo b) wi reflection lambda
 
-      go : (f : Bool) → is_finite x ≡ f → DensityHolds (cond f (D.Finite x) D.NotFinite)
+      go : (f : Bool) → is_finite x ≡ f → DensityHolds (cond f (Some x) None)
       go true e =
           let t = subst T (sym e) tt in (
             t,

@@ -1,6 +1,7 @@
 -- The laws, in the order in which they build on each other.
 pub mod Direction
 pub mod OnSurface
+pub mod Found
 pub mod Checks
 pub mod Weights
 pub mod Sampled

@@ -1,7 +1,7 @@
 -- Every starred sample of document 01, one conjunction (`all_samples` proves `AllSamples` of specs/Samples.antt).
 -- Those of whole bounces go by stages. Each leaf (local wo, a reading of a spectrum, a mirrored or a bent direction, F, a density) is
 -- computed from its definition; a stage puts leaves together by `rw`, for any roughness and spectra that are delta and read so.
-use Rattle.std.proofs.Common.{◌≡◌, ℕ, zero, suc, Bool, true, false, List, [], replicate, pos, refl}
+use Rattle.std.proofs.Common.{◌≡◌, Some, None, ℕ, zero, suc, Bool, true, false, List, [], replicate, pos, refl}
 use mathlib.Core.Bool.{or-true}
 use lib.Ieee.{Float, fin, binary64, add, sub, mul, div, neg, lt, le, eq, is_nan, of_int, to_unsigned}
 use Rattle.floats.specs.Float.{f0, f1, f2, f_1, decimal, epsilon, within, max, signum, is_finite}
@@ -20,17 +20,15 @@ use Rattle.optics.specs.Facets.{half, is_delta}
 use Rattle.optics.specs.Fresnel.{sin2_i, is_total, cos_i, fresnel, f_at}
 use Rattle.optics.specs.Bxdf.{scattered, direction, mirrored, reflect, bent, across_only, refract_facing, refract, branch, conductor_normal, conductor_from, is_smooth, dielectric_normal, rest, reflects, dielectric_from}
 use Rattle.optics.specs.Density.{on_z_side, at_z, conductor_half, conductor_pdf_from, conductor_pdf, eta_ratio, dielectric_half, is_discarded, reflected_pdf, passed_pdf, dielectric_pdf_from, dielectric_pdf, pdf_of, pdf}
-use Rattle.numbers.specs.Refusal.{◌then◌, accepted, refuse}
+use Rattle.numbers.specs.Refusal.{accepted}
 use Rattle.numbers.specs.Checked.{check_direction}
 use Rattle.optics.specs.Check.{check_spectra, check_surface, is_random, check_random, is_circle_pair, check_circle_pair}
 use Rattle.optics.specs.Samples.{quarter, three_quarters}
 use Rattle.optics.specs.declared.microfacet.Kind.TheVariants.{Metal, Glass}
 use Rattle.optics.proofs.Samples as Optics
-use Rattle.path.specs.declared.records.Density.TheVariants as D
-use Rattle.path.specs.declared.records.Shares.TheVariants as S
 use Rattle.path.specs.Path.{path, leading, is_path_lambda, is_power, is_filter, weighed}
 use Rattle.path.specs.Bounce.{advanced, check_bounce, check_rest, left_on_glass, left_on, lambda_on, local_wo, leading_index, facet_of, facet, fresnel_at, share, scatter_on, scatter, one_direction, shadowing, shadowing_on, metal_share, metal_filter, filter, weight, weight_from, weights_from, weights}
-use Rattle.path.specs.Answer.{reflected, passed, density_of, density, shares_on, shares, branch_of, worked, on_surface, answered, bounce}
+use Rattle.path.specs.Answer.{two_shares, reflected, passed, density_of, density, shares_on, shares, branch_of, worked, on_surface, answered, bounce}
 use Rattle.path.specs.Samples.{all, grid, constant, delta_metal, delta_glass, along, Samples, AllSamples}
 
 -- ---- local wo is Z
@@ -197,7 +195,7 @@ module _ (a : Vec2) (eta k : List Float) (outside : Outside) (delta : is_delta a
 
   metal-bounce :
       (x y u : Float) → check_bounce (path grid (all x)) (metal a eta k outside) (along u) ≡ accepted → mul binary64 x half ≡ y →
-      bounce (path grid (all x)) (metal a eta k outside) (along u) ≡ reflected Z (D.Finite f1) S.None (path grid (all y))
+      bounce (path grid (all x)) (metal a eta k outside) (along u) ≡ reflected Z (Some f1) None (path grid (all y))
   unfolding bounce answered on_surface worked branch_of advanced lambda_on left_on weighed density density_of is_finite pdf pdf_of shares shares_on
   metal-bounce x y u ok p = rw (ok, metal-scatter u, metal-weights u, local u, world_Z', metal-density a delta, p)
 
@@ -314,7 +312,7 @@ module _ (a : Vec2) (eta k : List Float) (outside : Outside) (delta : is_delta a
       scatter (glass a eta k outside) grid (along u) ≡ scattered wi r → to_world (basis Z) wi ≡ w →
       dielectric_pdf a f3 f0 r Z wi ≡ d → is_finite d ≡ true →
       bounce (path grid (all f1)) (glass a eta k outside) (along u) ≡
-      branch_of r w (D.Finite d) (S.Of quarter three_quarters) (path grid (all f1))
+      branch_of r w (Some d) (Some (two_shares quarter three_quarters)) (path grid (all f1))
   unfolding bounce answered on_surface worked advanced weighed density density_of pdf pdf_of leading index_at shares shares_on mul
   glass-bounce u d wi w r ok s t p f =
       rw (
@@ -349,13 +347,13 @@ glass-constant : constant_eta (constant f3) ones ≡ true
 unfolding constant_eta is_constant eq
 glass-constant = rw (every-replicate (eq f3) f3 refl 95, every-replicate (eq f1) f1 refl 95)
 
-once : bounce (path grid (all f1)) delta_metal (along f0) ≡ reflected Z (D.Finite f1) S.None (path grid (all half))
+once : bounce (path grid (all f1)) delta_metal (along f0) ≡ reflected Z (Some f1) None (path grid (all half))
 unfolding surface is_power within le mul
 once =
     metal-bounce smooth (constant f1) (constant f2) (medium []) smooth_delta (reads_eta f1) (reads_k f1 f2)
     f1 half f0 (metal_accepted f1 refl) refl
 
-again : bounce (path grid (all half)) delta_metal (along f0) ≡ reflected Z (D.Finite f1) S.None (path grid (all quarter))
+again : bounce (path grid (all half)) delta_metal (along f0) ≡ reflected Z (Some f1) None (path grid (all quarter))
 unfolding surface is_power within le mul
 again =
     metal-bounce smooth (constant f1) (constant f2) (medium []) smooth_delta (reads_eta f1) (reads_k f1 f2)
@@ -364,7 +362,7 @@ again =
 abbrev u0 : Float
 u0 = decimal 2 10
 
-reflects-u0 : bounce (path grid (all f1)) delta_glass (along u0) ≡ reflected Z (D.Finite quarter) (S.Of quarter three_quarters) (path grid (all f1))
+reflects-u0 : bounce (path grid (all f1)) delta_glass (along u0) ≡ reflected Z (Some quarter) (Some (two_shares quarter three_quarters)) (path grid (all f1))
 unfolding surface branch_of is_finite is_random decimal lt le
 reflects-u0 =
     glass-bounce smooth (constant f3) (constant f0) ones smooth_delta glass-constant reads_index (reads_k f3 f0)
@@ -372,7 +370,7 @@ reflects-u0 =
     (glass_reflects smooth (constant f3) (constant f0) ones smooth_delta glass-constant reads_index (reads_k f3 f0))
     world_Z (reflected-density smooth smooth_delta) refl
 
-passes_quarter : bounce (path grid (all f1)) delta_glass (along quarter) ≡ passed (vec3 f0 f0 f_1) (D.Finite three_quarters) (S.Of quarter three_quarters) (path grid (all f1))
+passes_quarter : bounce (path grid (all f1)) delta_glass (along quarter) ≡ passed (vec3 f0 f0 f_1) (Some three_quarters) (Some (two_shares quarter three_quarters)) (path grid (all f1))
 unfolding surface branch_of is_finite is_random lt le
 passes_quarter =
     glass-bounce smooth (constant f3) (constant f0) ones smooth_delta glass-constant reads_index (reads_k f3 f0)

@@ -1,22 +1,22 @@
 -- What a bounce answers, with document 01's number and values for each case. Definitions only.
-use Rattle.std.specs.Prelude.{ℕ, Bool, true, false, cond, Float}
+use Rattle.std.specs.Prelude.{ℕ, Bool, true, false, cond, Option, Some, None, Float}
 use Rattle.floats.specs.Float.{is_finite}
 use Rattle.numbers.specs.Onb.{basis, to_world}
-use Rattle.numbers.specs.Refusal.{number, Answer, refused, given, Verdict, accepted, rejected}
+use Rattle.numbers.specs.Refusal.{number, Verdict, accepted, rejected}
 use Rattle.numbers.specs.declared.vec3.Vec3.{Vec3}
 use Rattle.optics.specs.Surface.{Microsurface}
 use Rattle.optics.specs.Bxdf.{Scattered, scattered, totally, rest}
 use Rattle.optics.specs.Density.{pdf}
 use Rattle.optics.specs.declared.{color.Color.Color, microfacet.Kind.Kind, microfacet.Kind.TheVariants.Metal, microfacet.Kind.TheVariants.Glass}
-pub use Rattle.path.specs.declared.records.{Started.Started, Density.Density, Shares.Shares, Bounced.Bounced}
+pub use Rattle.path.specs.declared.records.{Shares.Shares, Bounced.Bounced}
 use Rattle.path.specs.Path.{Path, leading}
 use Rattle.path.specs.Bounce.{Bounce, advanced, check_bounce, lambda_on, local_wo, share, scatter}
 
 -- ---- the cases: refused by a number, with the path as it was; lost; reflected or passed
 pub data Outcome : Type 0 where
   refusal : ℕ → Path → Outcome
-  lost : Shares → Path → Outcome
-  reflected passed : Vec3 → Density → Shares → Path → Outcome
+  lost : Option Shares → Path → Outcome
+  reflected passed : Vec3 → Option Float → Option Shares → Path → Outcome
 
 unfoldable pub outcome : Bounced → Outcome
 outcome (Bounced.Refused why p) = refusal (number why) p
@@ -24,28 +24,27 @@ outcome (Bounced.Lost shares p) = lost shares p
 outcome (Bounced.Reflected wi density shares p) = reflected wi density shares p
 outcome (Bounced.Passed wi density shares p) = passed wi density shares p
 
-unfoldable pub started : Started → Answer Path
-started (Started.Refused why) = refused (number why)
-started (Started.Path p) = given p
-
 -- ---- what they carry
--- the density of local wo and wi with the branch as its reflection flag, or the word "not finite"
-unfoldable pub density_of : Float → Density
-density_of x = cond (is_finite x) (Density.Finite x) Density.NotFinite
+-- the density of local wo and wi with the branch as its reflection flag, where it is finite
+unfoldable pub density_of : Float → Option Float
+density_of x = cond (is_finite x) (Some x) None
 
-unfoldable pub density : Microsurface → Color → Bounce → Vec3 → Bool → Density
+unfoldable pub density : Microsurface → Color → Bounce → Vec3 → Bool → Option Float
 density m lambda b wi reflection = density_of (pdf m (local_wo b) wi reflection (leading lambda))
 
 -- F and 1 - F at the leading wavelength, on glass alone
-unfoldable pub shares_on : Kind → Float → Shares
-shares_on Metal F = Shares.None
-shares_on Glass F = Shares.Of F (rest F)
+abbrev pub two_shares : Float → Float → Shares
+two_shares F rest = record { reflected = F; passed = rest }
 
-unfoldable pub shares : Microsurface → Color → Bounce → Shares
+unfoldable pub shares_on : Kind → Float → Option Shares
+shares_on Metal F = None
+shares_on Glass F = Some (two_shares F (rest F))
+
+unfoldable pub shares : Microsurface → Color → Bounce → Option Shares
 shares m lambda b = shares_on m.kind (share m lambda b)
 
 -- ---- the answer
-unfoldable pub branch_of : Bool → Vec3 → Density → Shares → Path → Outcome
+unfoldable pub branch_of : Bool → Vec3 → Option Float → Option Shares → Path → Outcome
 branch_of true wi density shares next = reflected wi density shares next
 branch_of false wi density shares next = passed wi density shares next
 

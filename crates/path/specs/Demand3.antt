@@ -1,6 +1,6 @@
 -- Demand 3 of the contract, as one statement over a list of bounces. Definitions only; it is proved in proofs/Demand3.antt.
 use mathlib.Core.{Path.◌≡◌, List.List, List.[], List.◌∷◌}
-use Rattle.std.specs.Prelude.{T, ◌≢◌, Float}
+use Rattle.std.specs.Prelude.{T, ◌≢◌, Option, Some, None, Float}
 use Rattle.std.specs.Float.Ieee.{le}
 use Rattle.floats.specs.Float.{◌⊕◌, ◌⊖◌, f0, f1, is_finite}
 use Rattle.numbers.specs.declared.vec3.Vec3.{Vec3}
@@ -10,7 +10,7 @@ use Rattle.optics.specs.Bxdf.{totally}
 use Rattle.numbers.specs.Refusal.{accepted}
 use Rattle.optics.specs.declared.{color.Color.Color, microfacet.Kind.Kind, microfacet.Kind.TheVariants.Metal, microfacet.Kind.TheVariants.Glass}
 use Rattle.path.specs.Bounce.{Bounce, check_bounce, lambda_on, scatter}
-use Rattle.path.specs.Answer.{Density, Shares, Bounced, Outcome, refusal, lost, reflected, passed, outcome, bounce, path_of}
+use Rattle.path.specs.Answer.{Shares, Bounced, Outcome, refusal, lost, reflected, passed, outcome, bounce, path_of}
 use Rattle.path.specs.Path.{Path, path, ones}
 use Rattle.path.specs.Reckoning.{reckon}
 
@@ -53,16 +53,17 @@ abbrev pub FromZeroToOne : Float → Type 0
 FromZeroToOne x = T (le f0 x) × T (le x f1)
 
 -- on glass there are shares, F and 1 - F, they lie from 0 to 1, and their one rounded sum is exactly 1.0; metal has none
-abbrev pub SharesHold : Kind → Shares → Type 0
-SharesHold Metal (Shares.Of F rest) = ⊥
-SharesHold Metal Shares.None = Unit
-SharesHold Glass Shares.None = ⊥
-SharesHold Glass (Shares.Of F rest) = (rest ≡ f1 ⊖ F) × FromZeroToOne F × FromZeroToOne rest × (F ⊕ rest ≡ f1)
+abbrev pub SharesHold : Kind → Option Shares → Type 0
+SharesHold Metal (Some shares) = ⊥
+SharesHold Metal None = Unit
+SharesHold Glass None = ⊥
+SharesHold Glass (Some shares) =
+    (shares.passed ≡ f1 ⊖ shares.reflected) × FromZeroToOne shares.reflected × FromZeroToOne shares.passed × (shares.reflected ⊕ shares.passed ≡ f1)
 
 -- a density that is handed out is finite and not below 0
-abbrev pub DensityHolds : Density → Type 0
-DensityHolds (Density.Finite x) = T (is_finite x) × T (le f0 x)
-DensityHolds Density.NotFinite = Unit
+abbrev pub DensityHolds : Option Float → Type 0
+DensityHolds (Some x) = T (is_finite x) × T (le f0 x)
+DensityHolds None = Unit
 
 abbrev pub AnswerHolds : Kind → Outcome → Type 0
 AnswerHolds kind (refusal n p) = Unit

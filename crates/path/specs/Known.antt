@@ -1,16 +1,23 @@
 -- What a call finds once of its surface, for one bounce or many: a form that serves speed alone. Definitions only.
-use mathlib.Core.{Bool.false, List.List}
-use Rattle.std.specs.Prelude.{Float}
+use Rattle.std.specs.Prelude.{List, [], Float}
 use Rattle.numbers.specs.DenseSpectrum.{step_of}
-use Rattle.numbers.specs.Refusal.{Verdict, accepted, rejected}
+use Rattle.numbers.specs.Refusal.{Answer, given, ◌▷◌}
 use Rattle.optics.specs.Known.{known_on_glass}
-use Rattle.optics.specs.declared.microfacet.{Known.Known, Kind.Kind, Kind.TheVariants.Metal, Kind.TheVariants.Glass}
+use Rattle.optics.specs.Surface.{Outside, air, medium, Microsurface}
+use Rattle.optics.specs.Check.{check_surface}
+use Rattle.optics.specs.declared.microfacet.{Kind.Kind, Kind.TheVariants.Metal, Kind.TheVariants.Glass}
+pub use Rattle.path.specs.declared.prepared.Found.{Found}
 
--- on metal, and of a surface that is refused, nothing asks more than the step: false stands for the rest
-unfoldable pub known_step : List Float → Known
-known_step eta = record { step = step_of eta; outer_constant = false; eta_constant = false }
+-- the outer spectrum of a medium
+abbrev pub entries : Outside → List Float
+entries air = []
+entries (medium outer) = outer
 
-unfoldable pub known_on : Verdict → Kind → List Float → List Float → Known
-known_on accepted Glass eta outer = known_on_glass eta outer
-known_on accepted Metal eta outer = known_step eta
-known_on (rejected n) kind eta outer = known_step eta
+-- on metal nothing asks more than the step
+unfoldable pub found_on : Kind → List Float → Outside → Found
+found_on Metal eta outside = Found.Metal (step_of eta)
+found_on Glass eta outside = Found.Glass (known_on_glass eta (entries outside))
+
+-- of a surface that is refused nothing is asked
+unfoldable pub found : Microsurface → Answer Found
+found m = check_surface m ▷ given (found_on m.kind m.eta m.outside)

@@ -1,7 +1,7 @@
 -- Document 01's measured samples that are to be proved (marked * there): those of whole bounces, and with those of the crates below ONE conjunction (`AllSamples`).
 -- Definitions only; it is proved in proofs/Samples.antt. The bounces are at wavelengths of the grid, where a constant spectrum reads as its entry.
 use mathlib.Core.{Path.◌≡◌, Bool.false, List.List, List.[]}
-use Rattle.std.specs.Prelude.{replicate, pos, Float}
+use Rattle.std.specs.Prelude.{replicate, pos, Some, None, Float}
 use Rattle.std.specs.Float.{fin}
 use Rattle.floats.specs.Float.{f0, f1, f2, f_1, decimal}
 use Rattle.numbers.specs.Vec3.{vec3, Z}
@@ -15,7 +15,7 @@ use Rattle.optics.specs.Samples.{quarter, three_quarters}
 use Rattle.optics.specs.declared.{color.Color.Color, microfacet.Kind.TheVariants.Metal, microfacet.Kind.TheVariants.Glass}
 use Rattle.path.specs.Bounce.{Bounce}
 use Rattle.path.specs.Path.{path}
-use Rattle.path.specs.Answer.{Density, Shares, bounce, reflected, passed}
+use Rattle.path.specs.Answer.{two_shares, bounce, reflected, passed}
 
 abbrev pub all : Float → Color
 all x = color x x x x
@@ -40,11 +40,11 @@ along u = record { wo = Z; normal = Z; backface = false; u = u; disk = f0; c = f
 
 pub record Samples : Type 0 where
   -- delta metal, n 1, k 2, ks 1, wo = normal = Z: reflected to Z, powers 0.5, density 1.0; again: 0.25
-  pub metal_once : bounce (path grid (all f1)) delta_metal (along f0) ≡ reflected Z (Density.Finite f1) Shares.None (path grid (all half))
-  pub metal_again : bounce (path grid (all half)) delta_metal (along f0) ≡ reflected Z (Density.Finite f1) Shares.None (path grid (all quarter))
+  pub metal_once : bounce (path grid (all f1)) delta_metal (along f0) ≡ reflected Z (Some f1) None (path grid (all half))
+  pub metal_again : bounce (path grid (all half)) delta_metal (along f0) ≡ reflected Z (Some f1) None (path grid (all quarter))
   -- delta glass, eta 3, wo = normal = Z: u 0.2 reflects, density 0.25; u 0.25 passes to (0, 0, -1), density 0.75; shares 0.25 and 0.75
-  pub glass_reflects : bounce (path grid (all f1)) delta_glass (along (decimal 2 10)) ≡ reflected Z (Density.Finite quarter) (Shares.Of quarter three_quarters) (path grid (all f1))
-  pub glass_passes : bounce (path grid (all f1)) delta_glass (along quarter) ≡ passed (vec3 f0 f0 f_1) (Density.Finite three_quarters) (Shares.Of quarter three_quarters) (path grid (all f1))
+  pub glass_reflects : bounce (path grid (all f1)) delta_glass (along (decimal 2 10)) ≡ reflected Z (Some quarter) (Some (two_shares quarter three_quarters)) (path grid (all f1))
+  pub glass_passes : bounce (path grid (all f1)) delta_glass (along quarter) ≡ passed (vec3 f0 f0 f_1) (Some three_quarters) (Some (two_shares quarter three_quarters)) (path grid (all f1))
 
 -- the starred samples of document 01, all of them
 abbrev pub AllSamples : Type 0

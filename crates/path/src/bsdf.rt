@@ -1,148 +1,98 @@
 // A bounce, from a world direction to the powers that are left: lumo's `BSDF::sample`
 // (src/tracer/bsdf.rs) with the density and the weights of what it sampled.
-ghost use Rattle.std.specs.Prelude.{◌≡◌, cond, List, if◌then◌else◌, Float};
+ghost use Rattle.std.specs.Prelude.{◌≡◌, cond, if◌then◌else◌};
 ghost use Rattle.floats.specs.Float.{f0};
 ghost use Rattle.optics.specs.Color.{color};
-ghost use Rattle.numbers.specs.Refusal.{verdict};
+ghost use Rattle.numbers.specs.Refusal.{answer, given, ◌▷◌};
 ghost use Rattle.numbers.specs.Vec3.{dot};
 ghost use Rattle.numbers.specs.DenseSpectrum.{step_of};
-ghost use Rattle.optics.specs.Check.{check_surface};
-ghost use Rattle.optics.specs.Surface.{microsurface};
 ghost use Rattle.optics.specs.Known.{known_on_glass};
 ghost use Rattle.optics.specs.Facets.{is_delta, lambda};
 ghost use Rattle.optics.specs.Bxdf.{is_smooth};
 ghost use Rattle.optics.specs.Density.{conductor_pdf, dielectric_pdf};
 ghost use Rattle.optics.specs.declared.microfacet.Kind.TheVariants.{Metal, Glass};
 ghost use Rattle.path.specs.Path.{path, weighed, terminate};
-ghost use Rattle.path.specs.Bounce.{shadowing};
-ghost use Rattle.path.specs.Known.{known_step, known_on};
+ghost use Rattle.path.specs.Bounce.{shadowing, check_bounce};
+ghost use Rattle.path.specs.Known.{found_on, entries};
 ghost use Rattle.path.specs.Answer.{outcome, lost, density_of, branch_of, on_surface, bounce};
 
-use crate::records::{Bounce, Bounced, Density, Path, Shares};
+use crate::prepared::{Found, Prepared};
+use crate::records::{Bounce, Bounced, Path, Shares};
 use crate::{check, wavelength, weight};
 use floats::float;
-use numbers::dense_spectrum::DenseSpectrum;
 use numbers::onb::Onb;
-use numbers::refusal::Check;
+use numbers::refusal::Refusal;
 use numbers::vec3::Vec3;
 use optics::bxdf::{Sampled, conductor, dielectric};
-use optics::check::check_surface;
 use optics::color::Color;
 use optics::microfacet;
-use optics::microfacet::{Ggx, Kind, Known, Snell, Surface};
+use optics::microfacet::{Ggx, Known, Microsurface, Snell};
 
-// A bounce of `path` on a surface, whose spectra `eta`, `k` and `outer` are lent beside it.
-pub fn bounce(
-    path: Path,
-    surface: Surface,
-    eta: &[f64],
-    k: &[f64],
-    outer: &[f64],
-    b: Bounce,
-) -> Bounced
-    ensures { outcome result ≡ bounce path (microsurface surface eta.now k.now outer.now) b }
+// A bounce of `path` on a surface.
+pub fn bounce(path: Path, m: &Microsurface<'_>, b: Bounce) -> Bounced
+    ensures { outcome result ≡ bounce path m.now b }
 {
-    let check = check_surface(surface, eta, k, outer);
-    let kind = surface.kind;
-    let known = known_on(check, kind, eta, outer);
-    bounce_with(check, known, path, surface, eta, k, outer, b)
+    bounce_on(&Prepared::new(m), path, b)
 }
 
-// A bounce on a surface, from what its check gave and what is known of its spectra, so that many bounces ask
-// them once.
-pub(crate) fn bounce_with(
-    check: Check,
-    known: Known,
-    path: Path,
-    surface: Surface,
-    eta: &[f64],
-    k: &[f64],
-    outer: &[f64],
-    b: Bounce,
-) -> Bounced
-    requires { (verdict check ≡ check_surface (microsurface surface eta.now k.now outer.now)) × (known ≡ known_on (verdict check) surface.kind eta.now outer.now) }
-    ensures { outcome result ≡ bounce path (microsurface surface eta.now k.now outer.now) b }
+// A bounce on a surface that was prepared, so that many bounces prepare it once.
+pub(crate) fn bounce_on(m: &Prepared<'_, '_>, path: Path, b: Bounce) -> Bounced
+    ensures { outcome result ≡ bounce path m.now.surface.now b }
 {
-    if let Check::Refused(why) = check.then(check::check_rest(path, b)) {
-        return Bounced::Refused { why, path };
-    }
-    let kind = surface.kind;
-    match kind {
-        Kind::Metal => on_metal(known.step, path, surface, eta, k, b),
-        Kind::Glass => on_glass(known, path, surface, eta, k, outer, b),
+    match checked(m, path, b) {
+        Err(why) => Bounced::Refused { why, path },
+        Ok(Found::Metal { step }) => on_metal(step, path, m.surface, b),
+        Ok(Found::Glass(known)) => on_glass(known, path, m.surface, b),
     }
 }
 
-// What is known of a surface's spectra, from what its check gave: of a surface that is refused, and of metal, nothing
-// asks more than the step.
-pub(crate) fn known_on(check: Check, kind: Kind, eta: &[f64], outer: &[f64]) -> Known
-    ensures { result ≡ known_on (verdict check) kind eta.now outer.now }
+// What is known of the surface, if the bounce is accepted.
+fn checked(m: &Prepared<'_, '_>, path: Path, b: Bounce) -> Result<Found, Refusal>
+    ensures { answer result ≡ (check_bounce path m.now.surface.now b ▷ given (found_on m.now.surface.now.kind m.now.surface.now.eta m.now.surface.now.outside)) }
 {
-    if let Check::Refused(_) = check {
-        return known_step(eta);
-    }
-    match kind {
-        Kind::Metal => known_step(eta),
-        Kind::Glass => Known::on_glass(eta, outer),
-    }
-}
-
-fn known_step(eta: &[f64]) -> Known
-    ensures { result ≡ known_step eta.now }
-{
-    Known {
-        step: DenseSpectrum::step(eta),
-        outer_constant: false,
-        eta_constant: false,
-    }
+    let found = m.found?;
+    check::check_rest(path, b)?;
+    Ok(found)
 }
 
 // Metal reflects light, at its front alone, whatever lies outside.
-fn on_metal(step: f64, path: Path, surface: Surface, eta: &[f64], k: &[f64], b: Bounce) -> Bounced
-    requires { (surface.kind ≡ Metal) × (step ≡ step_of eta.now) }
-    ensures { (outer : List Float) → outcome result ≡ on_surface path (microsurface surface eta.now k.now outer) b }
+fn on_metal(step: f64, path: Path, m: &Microsurface<'_>, b: Bounce) -> Bounced
+    requires { (m.now.kind ≡ Metal) × (step ≡ step_of m.now.eta) }
+    ensures { outcome result ≡ on_surface path m.now b }
 {
     if b.backface {
-        return lost(path, Shares::None);
+        return lost(path, None);
     }
 
     let uvw = Onb::new(b.normal);
     let wo = uvw.to_local(b.wo);
-    let roughness = surface.roughness;
+    let roughness = m.surface.roughness;
     let mfd = Ggx { roughness };
     let wh = conductor::normal(wo, mfd, b.disk, b.c, b.s);
     // the roots of Λ(wo) wait for no other: they are worked while those of the normal are waited for
     let delta = mfd.is_delta();
     let lambda_wo = mfd.lambda_unless(delta, wo);
     let Sampled::Direction { wi, reflection: _ } = conductor::sample_from(wo, mfd, wh) else {
-        return lost(path, Shares::None);
+        return lost(path, None);
     };
 
     let seen = seen_on_metal(delta, lambda_wo, mfd, wo, wi, wh);
     let filter = weight::metal_filter(
         b.ks,
-        microfacet::f_on_metal(step, eta, k, wo, wh, path.lambda),
+        microfacet::f_on_metal(step, &m.spectra, wo, wh, path.lambda),
     );
     Bounced::Reflected {
         wi: uvw.to_world(wi),
         density: density_of(seen.pdf),
-        shares: Shares::None,
+        shares: None,
         path: path.weighed(weight::weights(path.lambda, filter, seen.q)),
     }
 }
 
 // Glass reflects light or passes it, by its Fresnel term at the leading wavelength.
-fn on_glass(
-    known: Known,
-    path: Path,
-    surface: Surface,
-    eta: &[f64],
-    k: &[f64],
-    outer: &[f64],
-    b: Bounce,
-) -> Bounced
-    requires { (surface.kind ≡ Glass) × (known ≡ known_on_glass eta.now outer.now) }
-    ensures { outcome result ≡ on_surface path (microsurface surface eta.now k.now outer.now) b }
+fn on_glass(known: Known, path: Path, m: &Microsurface<'_>, b: Bounce) -> Bounced
+    requires { (m.now.kind ≡ Glass) × (known ≡ known_on_glass m.now.eta (entries m.now.outside)) }
+    ensures { outcome result ≡ on_surface path m.now b }
 {
     // wavelengths end before anything reads them
     let lambda = left_on_glass(known.eta_constant, path.lambda);
@@ -150,18 +100,11 @@ fn on_glass(
     let left = Path { lambda, power };
 
     let leading = wavelength::leading_sample(lambda);
-    let at = microfacet::glass_constants_at(
-        known.outer_constant,
-        known.step,
-        eta,
-        k,
-        outer,
-        leading,
-    );
+    let at = microfacet::glass_constants_at(known.outer_constant, known.step, &m.spectra, leading);
 
     let uvw = Onb::new(b.normal);
     let wo = uvw.to_local(b.wo);
-    let roughness = surface.roughness;
+    let roughness = m.surface.roughness;
     let mfd = Ggx { roughness };
     let wh = dielectric::normal(wo, mfd, at.eta, b.disk, b.c, b.s);
     // the roots of Λ(wo) wait for no other: they are worked while those of the normal are waited for
@@ -171,10 +114,10 @@ fn on_glass(
     let wo_dot_wh = wo.dot(wh);
     let snell = Snell::new(wo_dot_wh, at.eta);
     let f = microfacet::fresnel_from(snell, wo_dot_wh, at.eta, at.k);
-    let shares = Shares::Of {
+    let shares = Some(Shares {
         reflected: f,
         passed: 1.0 - f,
-    };
+    });
     let Sampled::Direction { wi, reflection } = dielectric::sample_from(
         snell, wo_dot_wh, wo, wh, f, b.u,
     ) else {
@@ -195,7 +138,13 @@ fn on_glass(
 }
 
 // Light that glass sends on, by the branch that was taken.
-fn sent(reflection: bool, wi: Vec3, density: Density, shares: Shares, path: Path) -> Bounced
+fn sent(
+    reflection: bool,
+    wi: Vec3,
+    density: Option<f64>,
+    shares: Option<Shares>,
+    path: Path,
+) -> Bounced
     ensures { outcome result ≡ branch_of reflection wi density shares path }
 {
     if reflection {
@@ -267,7 +216,7 @@ fn seen_on_glass(
 }
 
 // No power is left of light that is lost.
-fn lost(left: Path, shares: Shares) -> Bounced
+fn lost(left: Path, shares: Option<Shares>) -> Bounced
     ensures { outcome result ≡ lost shares (path left.lambda (weighed left.power (color f0 f0 f0 f0))) }
 {
     Bounced::Lost {
@@ -276,11 +225,11 @@ fn lost(left: Path, shares: Shares) -> Bounced
     }
 }
 
-fn density_of(density: f64) -> Density
+fn density_of(density: f64) -> Option<f64>
     ensures { result ≡ density_of density }
 {
     if float::is_finite(density) {
-        return Density::Finite(density);
+        return Some(density);
     }
-    Density::NotFinite
+    None
 }

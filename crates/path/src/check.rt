@@ -24,16 +24,17 @@ fn all_shares(a: Color) -> bool
         & float::within(0.0, 1.0, a.s3)
 }
 
+#[tactic(auto, unfolding(crate::specs::Bounce::check_rest, crate::specs::Path::is_power, crate::specs::Path::is_filter, numbers::specs::Refusal::number))]
 pub fn check_rest(path: Path, b: Bounce) -> Check
     ensures { verdict result ≡ check_rest path b }
 {
-    refuse(Refusal::Wavelength, wavelength::is_path_lambda(path.lambda))
-        .then(refuse(Refusal::Power, all_shares(path.power)))
-        .then(check_direction(b.wo))
-        .then(check_direction(b.normal))
-        .then(check_random(b.u))
-        .then(check_random(b.disk))
-        .then(check_circle_pair(b.c, b.s))
-        .then(refuse(Refusal::Filter, all_shares(b.ks)))
-        .then(refuse(Refusal::Filter, all_shares(b.tf)))
+    refuse(Refusal::Wavelength, wavelength::is_path_lambda(path.lambda))?;
+    refuse(Refusal::Power, all_shares(path.power))?;
+    check_direction(b.wo)?;
+    check_direction(b.normal)?;
+    check_random(b.u)?;
+    check_random(b.disk)?;
+    check_circle_pair(b.c, b.s)?;
+    refuse(Refusal::Filter, all_shares(b.ks))?;
+    refuse(Refusal::Filter, all_shares(b.tf))
 }

@@ -6,6 +6,7 @@ pub mod bsdf;
 mod check;
 pub mod many;
 pub mod plain;
+mod prepared;
 pub mod records;
 pub mod thin;
 pub mod wavelength;

@@ -2,20 +2,15 @@
 // the first. Each bounce has a path of its own: 27 doubles in, 18 out.
 ghost use Rattle.std.specs.Prelude.{◌≡◌, ◌+◌, ◌*◌, ◌≤◌, ◌++◌, length, drop};
 ghost use Rattle.std.proofs.Math.Seq.{paste};
-ghost use Rattle.numbers.specs.Refusal.{verdict};
-ghost use Rattle.optics.specs.Check.{check_surface};
-ghost use Rattle.optics.specs.Surface.{microsurface};
-ghost use Rattle.path.specs.Known.{known_on};
 ghost use Rattle.path.specs.Answer.{outcome};
 ghost use Rattle.path.specs.Many.{is_set, path_in, bounce_in, numbers_out, bounced, bounced_at, all_bounced, count_of};
 
+use crate::prepared::Prepared;
 use crate::records::{Bounce, Bounced, Path};
 use crate::{bsdf, plain};
-use numbers::refusal::Check;
 use numbers::vec3::Vec3;
-use optics::check::check_surface;
 use optics::color::Color;
-use optics::microfacet::{Known, Surface};
+use optics::microfacet::Microsurface;
 
 // Whether a number stands for true: any but 0 does.
 fn is_set(x: f64) -> bool
@@ -111,21 +106,13 @@ fn numbers_out(answer: Bounced) -> [f64; 18]
 }
 
 // One bounce, from its 27 numbers.
-fn one(
-    check: Check,
-    known: Known,
-    surface: Surface,
-    eta: &[f64],
-    k: &[f64],
-    outer: &[f64],
-    numbers: &[f64],
-) -> [f64; 18]
-    requires { (length numbers.now ≡ 27) × (verdict check ≡ check_surface (microsurface surface eta.now k.now outer.now)) × (known ≡ known_on (verdict check) surface.kind eta.now outer.now) }
-    ensures { result ≡ bounced (microsurface surface eta.now k.now outer.now) numbers.now }
+fn one(m: &Prepared<'_, '_>, numbers: &[f64]) -> [f64; 18]
+    requires { (length numbers.now ≡ 27) }
+    ensures { result ≡ bounced m.now.surface.now numbers.now }
 {
     let path = path_in(numbers);
     let b = bounce_in(numbers);
-    numbers_out(bsdf::bounce_with(check, known, path, surface, eta, k, outer, b))
+    numbers_out(bsdf::bounce_on(m, path, b))
 }
 
 // Stores 18 numbers from `at` on.
@@ -141,44 +128,24 @@ fn put(output: &mut [f64], at: usize, numbers: &[f64; 18])
 }
 
 // The bounce at `i` of the input, to its place in the output.
-fn put_one(
-    check: Check,
-    known: Known,
-    surface: Surface,
-    eta: &[f64],
-    k: &[f64],
-    outer: &[f64],
-    input: &[f64],
-    output: &mut [f64],
-    i: usize,
-)
-    requires { (27 * i + 27 ≤ length input.now) × (18 * i + 18 ≤ length output.old) × (verdict check ≡ check_surface (microsurface surface eta.now k.now outer.now)) × (known ≡ known_on (verdict check) surface.kind eta.now outer.now) }
-    ensures { output.new ≡ paste output.old (18 * i) (bounced_at (microsurface surface eta.now k.now outer.now) input.now i) 18 }
+fn put_one(m: &Prepared<'_, '_>, input: &[f64], output: &mut [f64], i: usize)
+    requires { (27 * i + 27 ≤ length input.now) × (18 * i + 18 ≤ length output.old) }
+    ensures { output.new ≡ paste output.old (18 * i) (bounced_at m.now.surface.now input.now i) 18 }
 {
     let from = 27 * i;
     let end = from + 27;
-    let numbers = one(check, known, surface, eta, k, outer, &input[from..end]);
+    let numbers = one(m, &input[from..end]);
     put(output, 18 * i, &numbers);
 }
 
 // The first `n` bounces.
-fn run(
-    check: Check,
-    known: Known,
-    surface: Surface,
-    eta: &[f64],
-    k: &[f64],
-    outer: &[f64],
-    input: &[f64],
-    output: &mut [f64],
-    n: usize,
-)
-    requires { (27 * n ≤ length input.now) × (18 * n ≤ length output.old) × (verdict check ≡ check_surface (microsurface surface eta.now k.now outer.now)) × (known ≡ known_on (verdict check) surface.kind eta.now outer.now) }
-    ensures { output.new ≡ all_bounced (microsurface surface eta.now k.now outer.now) input.now n ++ drop (18 * n) output.old }
+fn run(m: &Prepared<'_, '_>, input: &[f64], output: &mut [f64], n: usize)
+    requires { (27 * n ≤ length input.now) × (18 * n ≤ length output.old) }
+    ensures { output.new ≡ all_bounced m.now.surface.now input.now n ++ drop (18 * n) output.old }
 {
     let mut i = 0;
     while i < n {
-        put_one(check, known, surface, eta, k, outer, input, output, i);
+        put_one(m, input, output, i);
         i += 1;
     }
 }
@@ -195,20 +162,10 @@ fn count(input: usize, output: usize) -> usize
 
 // Runs as many bounces as both arrays have room for, and returns how many; what lies past their places
 // in the output stays as it was.
-pub fn bounces(
-    surface: Surface,
-    eta: &[f64],
-    k: &[f64],
-    outer: &[f64],
-    input: &[f64],
-    output: &mut [f64],
-) -> usize
-    ensures { (result ≡ count_of (length input.now) (length output.old)) × (output.new ≡ all_bounced (microsurface surface eta.now k.now outer.now) input.now result ++ drop (18 * result) output.old) }
+pub fn bounces(m: &Microsurface<'_>, input: &[f64], output: &mut [f64]) -> usize
+    ensures { (result ≡ count_of (length input.now) (length output.old)) × (output.new ≡ all_bounced m.now input.now result ++ drop (18 * result) output.old) }
 {
     let n = count(input.len(), output.len());
-    let check = check_surface(surface, eta, k, outer);
-    let kind = surface.kind;
-    let known = bsdf::known_on(check, kind, eta, outer);
-    run(check, known, surface, eta, k, outer, input, output, n);
+    run(&Prepared::new(m), input, output, n);
     n
 }

@@ -4,7 +4,7 @@ ghost use Rattle.std.specs.Prelude.{◌≡◌};
 ghost use Rattle.path.specs.Answer.{outcome};
 ghost use Rattle.path.specs.Plain.{density_record, shares_record, bounce_result};
 
-use crate::records::{Bounced, Density, Shares};
+use crate::records::{Bounced, Shares};
 use numbers::vec3::Vec3;
 
 // `finite` is 1 where there is a density and it is finite, else 0.
@@ -52,28 +52,25 @@ const NO_SHARES: SharesRecord = SharesRecord {
     passed: 0.0,
 };
 
-fn of_density(density: Density) -> DensityRecord
+fn of_density(density: Option<f64>) -> DensityRecord
     ensures { result ≡ density_record density }
 {
     match density {
-        Density::Finite(x) => DensityRecord {
-            finite: 1,
-            value: x,
-        },
-        Density::NotFinite => NO_DENSITY,
+        Some(value) => DensityRecord { finite: 1, value },
+        None => NO_DENSITY,
     }
 }
 
-fn of_shares(shares: Shares) -> SharesRecord
+fn of_shares(shares: Option<Shares>) -> SharesRecord
     ensures { result ≡ shares_record shares }
 {
     match shares {
-        Shares::None => NO_SHARES,
-        Shares::Of { reflected, passed } => SharesRecord {
+        Some(shares) => SharesRecord {
             given: 1,
-            reflected,
-            passed,
+            reflected: shares.reflected,
+            passed: shares.passed,
         },
+        None => NO_SHARES,
     }
 }
 

@@ -1,10 +1,11 @@
 // The records of a path and its bounces (document 01, "Records"), and what a bounce answers.
 ghost use Rattle.std.specs.Prelude.{◌≡◌};
 ghost use Rattle.path.specs.Path.{path, start, weighed};
-ghost use Rattle.path.specs.Answer.{started, outcome, path_of};
+ghost use Rattle.numbers.specs.Refusal.{answer};
+ghost use Rattle.path.specs.Answer.{outcome, path_of};
 
 use crate::wavelength;
-use numbers::refusal::Refusal;
+use numbers::refusal::{Refusal, refuse};
 use numbers::vec3::Vec3;
 use optics::color::Color;
 
@@ -34,26 +35,15 @@ pub struct Bounce {
     pub tf: Color,
 }
 
-#[derive(Clone, Copy)]
-pub enum Started {
-    Refused(Refusal),
-    Path(Path),
-}
-
-#[derive(Clone, Copy)]
-pub enum Density {
-    Finite(f64),
-    NotFinite,
-}
-
 // The shares of reflected and passed light at the leading wavelength, which glass has.
 #[derive(Clone, Copy)]
-pub enum Shares {
-    None,
-    Of { reflected: f64, passed: f64 },
+pub struct Shares {
+    pub reflected: f64,
+    pub passed: f64,
 }
 
-// A refused bounce carries the path as it was; every other the path with its new powers.
+// A refused bounce carries the path as it was; every other the path with its new powers. A density is given where it is
+// finite.
 #[derive(Clone, Copy)]
 pub enum Bounced {
     Refused {
@@ -61,19 +51,19 @@ pub enum Bounced {
         path: Path,
     },
     Lost {
-        shares: Shares,
+        shares: Option<Shares>,
         path: Path,
     },
     Reflected {
         wi: Vec3,
-        density: Density,
-        shares: Shares,
+        density: Option<f64>,
+        shares: Option<Shares>,
         path: Path,
     },
     Passed {
         wi: Vec3,
-        density: Density,
-        shares: Shares,
+        density: Option<f64>,
+        shares: Option<Shares>,
         path: Path,
     },
 }
@@ -112,16 +102,15 @@ const ONES: Color = Color {
 
 impl Path {
     // A path at four wavelengths of the range.
-    pub fn start(lambda: Color) -> Started
-        ensures { started result ≡ start lambda }
+    #[tactic(auto, unfolding(crate::specs::Path::start, crate::specs::Path::ones, numbers::specs::Refusal::number))]
+    pub fn start(lambda: Color) -> Result<Path, Refusal>
+        ensures { answer result ≡ start lambda }
     {
-        if wavelength::is_start(lambda) {
-            return Started::Path(Path {
-                lambda,
-                power: ONES,
-            });
-        }
-        Started::Refused(Refusal::Wavelength)
+        refuse(Refusal::Wavelength, wavelength::is_start(lambda))?;
+        Ok(Path {
+            lambda,
+            power: ONES,
+        })
     }
 
     // The path with each power times the weight at its wavelength.

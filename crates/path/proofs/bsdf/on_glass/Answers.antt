@@ -10,11 +10,13 @@ use Rattle.path.proofs.bsdf.on_glass.Goals as goal
 pub returns-in_default : goal.returns-in_default
 unfolding rest of_bits
 returns-in_default c =
+    let kind = rw (← c.m.view_is) at c.requires.0 in
+    let known = rw (← c.m.view_is) at c.requires.1 in
     let cos = c.dot-wo_dot_wh.ensures in
     let snell = c.new-snell.ensures in
-    rw (c.requires.0, c.lost.ensures)
-    (sym (glass_lost _ _ _ _ _ c.args.b _ (left_from _ _ _ _ c.requires.1 _ c.left_on_glass-lambda.ensures) _ c.leading_sample-leading.ensures _
-    (index_from-known _ _ _ _ c.requires.1 _ c.glass_constants_at-at.ensures.0) _ (k_from-known _ _ _ _ _ c.requires.1 _ c.glass_constants_at-at.ensures.1) _ c.new-uvw.ensures _
+    rw (← c.m.view_is, c.lost.ensures)
+    (sym (glass_lost _ _ c.args.b kind _ (left_from _ _ _ _ known _ c.left_on_glass-lambda.ensures) _ c.leading_sample-leading.ensures _
+    (index_from-known _ _ _ _ known _ c.glass_constants_at-at.ensures.0) _ (k_from-known _ _ _ _ _ known _ c.glass_constants_at-at.ensures.1) _ c.new-uvw.ensures _
     c.to_local-wo.ensures _ c.normal-wh.ensures _ (f_at_from _ _ _ _ _ cos _ snell _ c.fresnel_from-f.ensures) _
     (dielectric_from_snell_lem _ _ _ _ _ _ cos _ snell _ c.sample_from.ensures)
     c.in_default.not-Direction))
@@ -25,11 +27,13 @@ seen_on_glass-seen-requires c = (c.is_smooth-smooth.ensures, c.lambda_unless-lam
 pub returns : goal.returns
 unfolding rest of_bits
 returns c =
+    let kind = rw (← c.m.view_is) at c.requires.0 in
+    let known = rw (← c.m.view_is) at c.requires.1 in
     let cos = c.dot-wo_dot_wh.ensures in
     let snell = c.new-snell.ensures in
-    rw (c.requires.0, c.sent.ensures, c.to_world.ensures, c.density_of.ensures, c.weighed.ensures, c.weights.ensures, c.glass_filter-filter.ensures, c.seen_on_glass-seen.ensures.0, c.seen_on_glass-seen.ensures.1)
-    (sym (glass_sent _ _ _ _ _ c.args.b _ (left_from _ _ _ _ c.requires.1 _ c.left_on_glass-lambda.ensures) _ c.leading_sample-leading.ensures _
-    (index_from-known _ _ _ _ c.requires.1 _ c.glass_constants_at-at.ensures.0) _ (k_from-known _ _ _ _ _ c.requires.1 _ c.glass_constants_at-at.ensures.1) _ c.new-uvw.ensures _
+    rw (← c.m.view_is, c.sent.ensures, c.to_world.ensures, c.density_of.ensures, c.weighed.ensures, c.weights.ensures, c.glass_filter-filter.ensures, c.seen_on_glass-seen.ensures.0, c.seen_on_glass-seen.ensures.1)
+    (sym (glass_sent _ _ c.args.b kind _ (left_from _ _ _ _ known _ c.left_on_glass-lambda.ensures) _ c.leading_sample-leading.ensures _
+    (index_from-known _ _ _ _ known _ c.glass_constants_at-at.ensures.0) _ (k_from-known _ _ _ _ _ known _ c.glass_constants_at-at.ensures.1) _ c.new-uvw.ensures _
     c.to_local-wo.ensures _ c.normal-wh.ensures _ (f_at_from _ _ _ _ _ cos _ snell _ c.fresnel_from-f.ensures) _
     (dielectric_from_snell_lem _ _ _ _ _ _ cos _ snell _ c.sample_from.ensures) _ _
     c.in-Direction.is))

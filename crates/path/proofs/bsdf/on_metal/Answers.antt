@@ -7,12 +7,12 @@ use Rattle.path.proofs.OnSurface.{metal_backface, metal_lost, metal_sent}
 use Rattle.path.proofs.bsdf.on_metal.Goals as goal
 
 pub returns-then-b : goal.returns-then-b
-returns-then-b c outer = rw (c.requires.0, c.lost.ensures) (sym (metal_backface _ _ _ _ _ c.args.b c.if-b.true))
+returns-then-b c = rw c.lost.ensures (sym (metal_backface _ _ c.args.b c.requires.0 c.if-b.true))
 
 pub returns-in_default : goal.returns-in_default
-returns-in_default c outer =
-    rw (c.requires.0, c.lost-in_default.ensures)
-    (sym (metal_lost _ _ _ _ _ c.args.b c.if-b.false _ c.new-uvw.ensures _ c.to_local-wo.ensures _
+returns-in_default c =
+    rw (c.lost-in_default.ensures, ← c.m.view_is)
+    (sym (metal_lost _ _ c.args.b (rw (← c.m.view_is) at c.requires.0) c.if-b.false _ c.new-uvw.ensures _ c.to_local-wo.ensures _
     c.normal-wh.ensures _ c.sample_from.ensures c.in_default.not-Direction))
 
 pub seen_on_metal-seen-requires : goal.seen_on_metal-seen-requires
@@ -20,7 +20,8 @@ seen_on_metal-seen-requires c = (c.is_delta-delta.ensures, c.lambda_unless-lambd
 
 pub returns : goal.returns
 unfolding outcome
-returns c outer =
-    rw (c.requires.0, c.to_world.ensures, c.density_of.ensures, c.weighed.ensures, c.weights.ensures, c.metal_filter-filter.ensures, c.f_on_metal.ensures, c.requires.1, f_metal_from_lem _ _ (medium outer), c.seen_on_metal-seen.ensures.0, c.seen_on_metal-seen.ensures.1)
-    (sym (metal_sent _ _ _ _ _ c.args.b c.if-b.false _ c.new-uvw.ensures _ c.to_local-wo.ensures _
+returns c =
+    let spectra = c.m.inside.spectra in
+    rw (← c.m.view_is, c.to_world.ensures, c.density_of.ensures, c.weighed.ensures, c.weights.ensures, c.metal_filter-filter.ensures, c.f_on_metal.ensures, rw (← c.m.view_is) at c.requires.1, f_metal_from_lem spectra.eta spectra.k (medium spectra.outer), c.seen_on_metal-seen.ensures.0, c.seen_on_metal-seen.ensures.1)
+    (sym (metal_sent _ _ c.args.b (rw (← c.m.view_is) at c.requires.0) c.if-b.false _ c.new-uvw.ensures _ c.to_local-wo.ensures _
     c.normal-wh.ensures _ c.sample_from.ensures _ _ c.in-Direction.is))

@@ -4,4 +4,4 @@ use Rattle.path.proofs.many.one.Goals as goal
 
 pub returns : goal.returns
 unfolding bounced
-returns c = rw (← c.path_in-path.ensures, ← c.bounce_in-b.ensures, ← c.bounce_with.ensures, ← c.numbers_out.ensures)
+returns c = rw (← c.path_in-path.ensures, ← c.bounce_in-b.ensures, ← c.bounce_on.ensures, ← c.numbers_out.ensures)

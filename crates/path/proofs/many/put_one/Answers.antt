@@ -2,7 +2,6 @@
 use Rattle.std.proofs.Common.{◌≡◌, ℕ, ◌+◌, ◌-◌, ◌*◌, List, length, take, drop, ap, ◌∙◌, arith}
 use lib.Ieee.{Float}
 use lib.Seq.{paste}
-use Rattle.optics.specs.Surface.{microsurface}
 use Rattle.path.specs.Many.{bounced, bounced_at}
 use Rattle.path.proofs.ManyBounces.{length-bounced}
 use Rattle.path.proofs.many.put_one.Goals as goal
@@ -18,7 +17,7 @@ pub returns : goal.returns
 unfolding bounced_at
 returns c =
     let args = c.args in
-    let m = microsurface args.surface args.eta.now args.k.now args.outer.now in
+    let m = args.m.now.surface.now in
     c.put.ensures
     ∙ ap (λ (l : List Float). paste args.output.now (18 * args.i) l 18)
     (c.one-numbers.ensures

@@ -2,7 +2,7 @@
 use Rattle.std.proofs.Common.{◌≡◌, ℕ, ◌+◌, ◌*◌, ◌≤◌, List, ◌++◌, length, drop, sym, refl, ap, ◌∙◌, le_of_eq, le_antisymm, arith}
 use lib.Ieee.{Float}
 use lib.Seq.{paste, length-paste}
-use Rattle.optics.specs.Surface.{Microsurface, microsurface}
+use Rattle.optics.specs.Surface.{Microsurface}
 use Rattle.path.specs.Many.{bounced_at, all_bounced}
 use Rattle.path.proofs.ManyBounces.{length-bounced_at, one_more}
 use Rattle.path.proofs.many.run.Goals as goal
@@ -28,12 +28,12 @@ loop-i-init c = (omega arith, refl, refl)
 
 pub put_one-requires : goal.put_one-requires
 unfolding all_bounced
-put_one-requires c = (omega arith, omega arith, c.requires.2, c.requires.3)
+put_one-requires c = (omega arith, omega arith)
 
 pub loop-i-preserved : goal.loop-i-preserved
 loop-i-preserved c =
     let args = c.args in
-    let m = microsurface args.surface args.eta.now args.k.now args.outer.now in
+    let m = args.m.now.surface.now in
     let inv = c.loop-i.invariant in
     let stored = c.put_one.ensures in (
       omega arith,
@@ -48,7 +48,7 @@ shape_of-output c = c.loop-i.invariant.2
 pub returns : goal.returns
 returns c =
     let args = c.args in
-    let m = microsurface args.surface args.eta.now args.k.now args.outer.now in
+    let m = args.m.now.surface.now in
     c.loop-i.invariant.1
     ∙ ap (λ (n : ℕ). all_bounced m args.input.now n ++ drop (18 * n) args.output.now)
     (le_antisymm c.loop-i.invariant.0 c.loop-i-test.false)

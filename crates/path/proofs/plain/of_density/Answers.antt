@@ -3,10 +3,10 @@ use lib.Ieee.{of_bits}
 use Rattle.path.specs.Plain.{density_record}
 use Rattle.path.proofs.plain.of_density.Goals as goal
 
-pub returns-in-Finite : goal.returns-in-Finite
+pub returns-in-Some : goal.returns-in-Some
 unfolding density_record of_bits
-returns-in-Finite c = rw c.in-Finite.is
+returns-in-Some c = rw c.in-Some.is
 
-pub returns-in-NotFinite : goal.returns-in-NotFinite
+pub returns-in-None : goal.returns-in-None
 unfolding density_record of_bits
-returns-in-NotFinite c = rw c.in-NotFinite.is
+returns-in-None c = rw c.in-None.is
