@@ -132,10 +132,7 @@ pub fn check_lookups(lambda: Color) -> Check
 {
     refuse(
         Refusal::Wavelength,
-        dense_spectrum::is_lookup_wavelength(lambda.s0)
-            & dense_spectrum::is_lookup_wavelength(lambda.s1)
-            & dense_spectrum::is_lookup_wavelength(lambda.s2)
-            & dense_spectrum::is_lookup_wavelength(lambda.s3),
+        lambda.all(dense_spectrum::is_lookup_wavelength),
     )
 }
 

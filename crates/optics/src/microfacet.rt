@@ -489,6 +489,7 @@ pub fn f(kind: Kind, spectra: &Spectra<'_>, wo: Vec3, wh: Vec3, lambda: Color) -
 }
 
 // On glass, with `step` and whether the outer spectrum is constant at hand.
+#[tactic(auto, unfolding(crate::specs::SharedTerms::f_glass_from, crate::specs::Fresnel::f_at))]
 fn f_on_glass(
     outer_constant: bool,
     step: f64,
@@ -500,45 +501,23 @@ fn f_on_glass(
     ensures { result ≡ f_glass_from outer_constant step spectra.now.eta spectra.now.k spectra.now.outer wo wh lambda }
 {
     let cos_o = wo.dot(wh);
-    Color {
-        s0: fresnel_on_glass(outer_constant, step, spectra, cos_o, lambda.s0),
-        s1: fresnel_on_glass(outer_constant, step, spectra, cos_o, lambda.s1),
-        s2: fresnel_on_glass(outer_constant, step, spectra, cos_o, lambda.s2),
-        s3: fresnel_on_glass(outer_constant, step, spectra, cos_o, lambda.s3),
-    }
-}
-
-fn fresnel_on_glass(
-    outer_constant: bool,
-    step: f64,
-    spectra: &Spectra<'_>,
-    cos_o: f64,
-    wl: f64,
-) -> f64
-    ensures { result ≡ fresnel cos_o (quotient_from outer_constant step spectra.now.eta spectra.now.outer wl) (k_from step spectra.now.k wl) }
-{
-    let at = glass_constants_at(outer_constant, step, spectra, wl);
-    fresnel(cos_o, at.eta, at.k)
+    // `move`, so that the closure holds the numbers and reads none of them through a reference
+    lambda.map(move |wl| {
+        let at = glass_constants_at(outer_constant, step, spectra, wl);
+        fresnel(cos_o, at.eta, at.k)
+    })
 }
 
 // On metal, with `step` at hand.
+#[tactic(auto, unfolding(crate::specs::SharedTerms::f_metal_from, crate::specs::Fresnel::f_at))]
 pub fn f_on_metal(step: f64, spectra: &Spectra<'_>, wo: Vec3, wh: Vec3, lambda: Color) -> Color
     ensures { result ≡ f_metal_from step spectra.now.eta spectra.now.k wo wh lambda }
 {
     let cos_o = wo.dot(wh);
-    Color {
-        s0: fresnel_on_metal(step, spectra, cos_o, lambda.s0),
-        s1: fresnel_on_metal(step, spectra, cos_o, lambda.s1),
-        s2: fresnel_on_metal(step, spectra, cos_o, lambda.s2),
-        s3: fresnel_on_metal(step, spectra, cos_o, lambda.s3),
-    }
-}
-
-fn fresnel_on_metal(step: f64, spectra: &Spectra<'_>, cos_o: f64, wl: f64) -> f64
-    ensures { result ≡ fresnel cos_o (eta_from step spectra.now.eta wl) (k_from step spectra.now.k wl) }
-{
-    let at = metal_constants_at(step, spectra, wl);
-    fresnel(cos_o, at.eta, at.k)
+    lambda.map(move |wl| {
+        let at = metal_constants_at(step, spectra, wl);
+        fresnel(cos_o, at.eta, at.k)
+    })
 }
 
 // Fresnel term with the full equations, at one wavelength, whose index is `eta` and absorption `k`.
