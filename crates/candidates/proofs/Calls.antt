@@ -3,7 +3,7 @@
 use Rattle.std.proofs.Common.{ℕ, suc, ◌+◌, ◌-◌, ◌≤◌, ◌<◌, min, ◌≡◌, refl, sym, ap, ◌∙◌, Bool, true, false, cond, not, nat_lt, ltb→lt, ltb-false, List, [], ◌∷◌, map, length, take, take_all, length-take, inl, inr, Some, None, Option, unwrap_or, arith, one-add}
 use lib.Ieee.{Float}
 use Rattle.std.specs.List as Std
-use Rattle.std.specs.List.{position, position_or_len}
+use Rattle.std.specs.List.{position, position_or_len, take-map}
 use Rattle.std.proofs.lemmas.List.Edits.{length-insert, length-remove}
 use Rattle.std.proofs.lemmas.List.Sums.{prefix_len-le-length}
 use Rattle.floats.proofs.Rounding.{below_or_from}
@@ -14,7 +14,7 @@ use Rattle.candidates.specs.Memory.{Memory, memory, rows, Sized, listed, listed_
 use Rattle.candidates.proofs.Lists.{map-insert, map-remove, first_map}
 use Rattle.candidates.proofs.Ids.{among_found, among_missed}
 use Rattle.candidates.proofs.Passed.{passed}
-use Rattle.candidates.proofs.Rows.{ids_of-rows, densities_of-rows, length-rows, take-map, take-rows}
+use Rattle.candidates.proofs.Rows.{ids_of-rows, densities_of-rows, length-rows, take-rows}
 
 -- ---- the definitions by places
 insert_is : (c : Candidate) (cs : List Candidate) → insert c cs ≡ Std.insert cs (position_or_len (goes_before c) cs) c
@@ -47,10 +47,10 @@ module _ (ids : List ℕ) (ds : List Float) (n : ℕ) (as_long : length ids ≡ 
   first = take n (rows ids ds)
 
   ids_of : map (λ c. c.id) first ≡ take n ids
-  ids_of = take-map (λ c. c.id) n (rows ids ds) ∙ ap (take n) (ids_of-rows ids ds as_long)
+  ids_of = sym (take-map (λ c. c.id) n (rows ids ds)) ∙ ap (take n) (ids_of-rows ids ds as_long)
 
   densities_of : map (λ c. c.density) first ≡ take n ds
-  densities_of = take-map (λ c. c.density) n (rows ids ds) ∙ ap (take n) (densities_of-rows ids ds as_long)
+  densities_of = sym (take-map (λ c. c.density) n (rows ids ds)) ∙ ap (take n) (densities_of-rows ids ds as_long)
 
   inserted-ids : (c : Candidate) (at : ℕ) → column_over (λ d. d.id) (Std.insert first at c) ids ≡ over (Std.insert (take n ids) at c.id) ids
   inserted-ids c at = rw (map-insert (λ d. d.id) first at c, ids_of)

@@ -5,8 +5,10 @@ use native.Mathlib.Numerals.{add-one}
 use native.Mathlib.Omega.{arith}
 use mathlib.Core.Path.{◌≡◌, refl, ap}
 use mathlib.Core.Bool.{Bool, not, cond}
-use mathlib.Core.List.{List, [], ◌∷◌, ◌++◌, map}
-use lib.ListN.{length, take, drop, set, length-take}
+use mathlib.Core.List.{List, [], ◌∷◌, ◌++◌, map, append_assoc}
+use lib.ListN.{length, take, drop, set, length-take, length-drop}
+use lib.Seq.{take-take}
+use borrow.Rule.Slice.PartMut.{put_mid}
 use Rattle.std.specs.List.{position_or_len, copy_within, insert, remove}
 use Rattle.candidates.specs.Lists.{over}
 
@@ -27,23 +29,38 @@ map-remove {B} f (y ∷ ys) (suc i) = ap (λ (l : List B). f y ∷ l) (map-remov
 
 -- ---- the first at + k of a column s
 module _ {A : Type 0} where
-  -- k entries copied a place further, and x in the place that is free then
-  put_far : (s : List A) (at k : ℕ) (x : A) → at + k < length s
-      → set (take (suc at) s ++ take k (drop at s) ++ drop (suc (at + k)) s) at x ≡ over (insert (take (at + k) s) at x) s
-  unfolding over
-  put_far [] at k x l = absurd (omega arith)
-  put_far (y ∷ s) zero k x l =
-      let h = length-take k (y ∷ s) in
-      let e : length (take k (y ∷ s)) ≡ k = omega arith in
-      rw (zero-add, e)
-  put_far (y ∷ s) (suc at) k x l = rw suc-add (ap (λ (l : List A). y ∷ l) (put_far s at k x (omega arith)))
+  set_first : (xs ys : List A) (x : A) → length xs ≡ 1 → set (xs ++ ys) 0 x ≡ x ∷ ys
+  set_first [] ys x h = absurd (omega arith)
+  set_first (y ∷ []) ys x h = refl
+  set_first (y ∷ z ∷ xs) ys x h = absurd (omega arith)
 
-  pub put_in : (s : List A) (n at : ℕ) (x : A) → at ≤ n → n < length s → set (copy_within s at n (at + 1)) at x ≡ over (insert (take n s) at x) s
-  put_in s n at x h l =
-      let e : at + (n - at) ≡ n = omega arith in
-      let f : suc at + (n - at) ≡ suc n = omega arith in
-      let g = put_far s at (n - at) x (omega arith) in
-      rw (add-one, f) (rw e at g)
+  -- k entries and the place behind them turned by one, and x in the first of these places
+  put_far : (s r : List A) (at k : ℕ) (x : A) → at + k < length s
+      → r ≡ drop k (take (suc k) (drop at s)) ++ take k (take (suc k) (drop at s))
+      → set (put_mid at (suc k) s r) at x ≡ over (insert (take (at + k) s) at x) s
+  unfolding over
+  put_far [] r at k x l e = absurd (omega arith)
+  put_far (y ∷ s) r zero k x l e =
+      let all = take (suc k) (y ∷ s) in
+      let h = length-take (suc k) (y ∷ s) in
+      let i = length-drop k all in
+      let j = length-take k (y ∷ s) in
+      let last : length (drop k all) ≡ 1 = omega arith in
+      let f : length (take k (y ∷ s)) ≡ k = omega arith in
+      rw (e, append_assoc, set_first _ _ x last, take-take k (suc k) (y ∷ s) (omega arith), zero-add, f)
+  put_far (y ∷ s) r (suc at) k x l e = rw suc-add (ap (λ (l : List A). y ∷ l) (put_far s r at k x (omega arith) e))
+
+  pub put_in : (s r : List A) (n at m : ℕ) (x : A) → at ≤ n → n < length s → m ≡ n + 1 - at
+      → (let t = take m (drop at s) in r ≡ drop (length t - 1) t ++ take (length t - 1) t)
+      → set (put_mid at m s r) at x ≡ over (insert (take n s) at x) s
+  put_in s r n at m x h l f e =
+      let k = n - at in
+      let i : m ≡ suc k = omega arith in
+      let j : at + k ≡ n = omega arith in
+      let d = length-drop at s in
+      let t = length-take (suc k) (drop at s) in
+      let u : length (take (suc k) (drop at s)) - 1 ≡ k = omega arith in
+      rw i (rw j at (put_far s r at k x (omega arith) (rw (i, u) at e)))
 
   -- k entries copied a place back
   take_near : (s : List A) (at k : ℕ) → at + k < length s

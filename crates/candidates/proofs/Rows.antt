@@ -1,10 +1,11 @@
 -- Laws of a list in memory: the columns of `rows`, one row and the first rows of them, and that memory holds the list that `holding` puts there. By induction on the columns.
-use Prim.Native.Nat.{ℕ, zero, suc, ◌≤◌, ◌<◌}
+use Prim.Native.Nat.{ℕ, zero, suc, ◌≤◌}
 use native.Mathlib.Omega.{arith}
 use mathlib.Core.{Path.◌≡◌, Path.refl, Path.sym, Path.ap, Path.◌∙◌, List.List, List.[], List.◌∷◌, List.map}
-use lib.ListN.{length, take, drop, get_or, length-append, length-map, length-drop}
+use lib.ListN.{length, take, drop, length-append, length-map, length-drop}
 use lib.Seq.{take-append_seam}
-use lib.Ieee.{Float, nan}
+use lib.Ieee.{Float}
+use Rattle.std.specs.List.{take-map}
 use Rattle.candidates.specs.Lists.{over}
 use Rattle.candidates.specs.Candidate.{Candidate}
 use Rattle.candidates.specs.Memory.{Memory, Sized, Laid, rows, listed, listed_ids, holding}
@@ -26,14 +27,6 @@ densities_of-rows (id ∷ ids) (d ∷ ds) e = ap (λ (l : List Float). d ∷ l) 
 pub length-rows : (ids : List ℕ) (ds : List Float) → length ids ≡ length ds → length (rows ids ds) ≡ length ids
 length-rows ids ds e = sym (length-map (rows ids ds) (λ c. c.id)) ∙ ap length (ids_of-rows ids ds e)
 
-pub row_at : (ids : List ℕ) (ds : List Float) (i : ℕ) → i < length ids → length ids ≡ length ds → (d : Candidate)
-    → get_or (rows ids ds) i d ≡ record { id = get_or ids i 0; density = get_or ds i nan }
-unfolding rows
-row_at [] ds i h e c = absurd (omega arith)
-row_at (id ∷ ids) [] i h e c = absurd (omega arith)
-row_at (id ∷ ids) (d ∷ ds) zero h e c = refl
-row_at (id ∷ ids) (d ∷ ds) (suc i) h e c = row_at ids ds i (omega arith) (omega arith) c
-
 pub take-rows : (k : ℕ) (ids : List ℕ) (ds : List Float) → take k (rows ids ds) ≡ rows (take k ids) (take k ds)
 unfolding rows
 take-rows zero ids ds = refl
@@ -47,16 +40,11 @@ rows_of [] = refl
 rows_of (c ∷ cs) = ap (λ (l : List Candidate). c ∷ l) (rows_of cs)
 
 -- ---- the list in memory
-pub take-map : {A B : Type 0} (f : A → B) (k : ℕ) (xs : List A) → map f (take k xs) ≡ take k (map f xs)
-take-map f zero xs = refl
-take-map f (suc k) [] = refl
-take-map {B} f (suc k) (x ∷ xs) = ap (λ (l : List B). f x ∷ l) (take-map f k xs)
-
 module _ (m : Memory) (e : length m.ids ≡ length m.densities) where
   pub listed-ids : map (λ c. c.id) (listed m) ≡ listed_ids m
   unfolding listed listed_ids
   listed-ids =
-      take-map (λ c. c.id) m.count (rows m.ids m.densities) ∙ ap (take m.count) (ids_of-rows m.ids m.densities e)
+      sym (take-map (λ c. c.id) m.count (rows m.ids m.densities)) ∙ ap (take m.count) (ids_of-rows m.ids m.densities e)
 
   -- a list as long as its count is laid out in its places
   pub listed-laid : m.count ≡ length (listed m) → Laid (listed m) m
@@ -66,7 +54,7 @@ module _ (m : Memory) (e : length m.ids ≡ length m.densities) where
         count = c;
         ids = sym listed-ids;
         densities =
-            sym (take-map (λ c. c.density) m.count (rows m.ids m.densities) ∙ ap (take m.count) (densities_of-rows m.ids m.densities e));
+            sym (sym (take-map (λ c. c.density) m.count (rows m.ids m.densities)) ∙ ap (take m.count) (densities_of-rows m.ids m.densities e));
       }
 
 length_over : {A : Type 0} (xs before : List A) → length xs ≤ length before → length (over xs before) ≡ length before
