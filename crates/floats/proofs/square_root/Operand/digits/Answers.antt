@@ -1,5 +1,5 @@
 -- `digits` meets its contract: each turn of the loop is a digit of `after`, with what it needs and gives by RootDigits.
-use Rattle.std.proofs.Common.{refl, arith}
+use Rattle.std.proofs.Common.{◌≡◌, refl, ap, ◌∙◌, ◌*◌, ◌^◌, arith}
 use Rattle.floats.specs.RootDigits.{after}
 use Rattle.floats.proofs.square_root.RootDigits.{ready, turn}
 use Rattle.floats.proofs.square_root.Operand.digits.Goals as goal
