@@ -16,14 +16,9 @@ pub mod SignedPoly
 pub mod Expression
 pub mod Sizes
 pub mod Signs
-use mathlib.Core.Path.{◌≡◌, sym, ap, ◌∙◌, subst}
-use mathlib.Core.Logic.{◌⊎◌, inl, inr}
-use Prim.Native.Nat.{ℕ, ◌+◌, ◌-◌, ◌*◌, ◌/◌, ◌%◌, ◌^◌, ◌≤◌, ◌<◌, compare, Ordering}
-use native.Mathlib.Nat.{le_refl, le_trans, le_of_eq, le_antisymm, lt_of_le_of_lt, lt_of_lt_of_le, eq-or-lt_of_le, eq-zero-or-pos, mul_assoc, mul_comm, mul-le-mul_right, mul-le-mul_left, mul-one, le_of_mul-le-mul_right, le-div_iff_mul-le, div-lt_iff_lt-mul, div-add-mod', mod-lt, mul-pos, lt_irrefl}
-use native.Mathlib.Omega.{arith}
-use mathlib.Core.Bool.{not}
-use lib.Dec.{T, is_le, compare_is_eq, leb→le, nleb→lt, eqb→eq, lit<}
-use lib.Pow.{pow-add, pow_pos, pow_mono, shl_lt}
+use Rattle.std.proofs.Common.{◌≡◌, sym, ap, ◌∙◌, subst, ◌⊎◌, inl, inr, ℕ, ◌+◌, ◌-◌, ◌*◌, ◌/◌, ◌%◌, ◌^◌, ◌≤◌, ◌<◌, le_refl, le_trans, le_of_eq, le_antisymm, lt_of_le_of_lt, lt_of_lt_of_le, eq-or-lt_of_le, eq-zero-or-pos, mul_assoc, mul_comm, mul-le-mul_right, mul-le-mul_left, mul-one, le_of_mul-le-mul_right, le-div_iff_mul-le, div-lt_iff_lt-mul, div-add-mod', mod-lt, mul-pos, lt_irrefl, arith, not, T, leb→le, eqb→eq, lit<, pow-add, pow_pos, pow_mono, shl_lt}
+use Prim.Native.Nat.{compare, Ordering}
+use lib.Dec.{is_le, compare_is_eq, nleb→lt}
 use lib.Ieee.{size, nearest}
 use lib.Ieee.Digits.{size-lt, size-le, size_reaches}
 use lib.Ieee.Nearest.{closest, closest_mono, div_mono}

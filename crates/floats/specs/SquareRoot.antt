@@ -1,6 +1,7 @@
 -- The square root of a float, correctly rounded (IEEE 754-2019, 5.4.1, squareRoot). Definitions only.
 -- First how it is computed; then what it is, `SquareRoot`, which says nothing of the
--- computation. `nearest-root` of proofs/square_root/NearestRoot.antt proves that of this.
+-- computation. `nearest-root` of proofs/square_root/NearestRoot.antt proves that of this, and `by_processor` of Processor.antt beside it
+-- that the language's own definition of a processor's root gives the same.
 use Rattle.std.specs.Prelude.{◌≡◌, ℕ, zero, suc, ◌+◌, ◌*◌, ◌/◌, ◌^◌, ◌<◌, Bool, true, false, cond, pos, T, leb, eqb, Float}
 use Rattle.std.specs.Float.{nan, inf, fin, Format, binary64}
 use Rattle.std.specs.Float.Ieee.{low, emax, up, down, round, fits, lt}

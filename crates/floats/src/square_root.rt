@@ -56,6 +56,7 @@ struct Operand {
 
 impl Operand {
     // The operand of d * 2 ^ e times 2 ^ -2148, d being of 53 digits: an odd exponent gives it one more.
+    #[tactic(auto, using(crate::proofs::square_root::RootOperand::placed_at))]
     fn placed(d: u64, e: u64) -> Self
         requires { (2 ^ 52 ≤ d) × (d < 2 ^ 53) × (1022 ≤ e) × (e ≤ 3119) }
         ensures { Placed d e result.m result.h }

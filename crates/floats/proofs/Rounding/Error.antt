@@ -2,14 +2,9 @@
 -- two naturals, so every bound is a pair of inequalities over ℕ that `omega` reads.
 -- Proved: |fl(x + y) - (x + y)| <= 2 ^ -53 |x + y| (`add_err`), the same for a product and a quotient with half a unit more
 -- (`mul_err`, `div_err`); an error as a number of its own (`unscale`). From the error of `rnd` in Rounding, sign by sign.
-use mathlib.Core.Path.{◌≡◌, refl, sym, ap, ◌∙◌, subst}
-use Prim.Native.Nat.{ℕ, ◌+◌, ◌-◌, ◌*◌, ◌/◌, ◌^◌, ◌≤◌, ◌<◌}
-use native.Mathlib.Nat.{mul-pos, le_of_mul-le-mul_right, lt_of_mul-lt-mul_right, mul-div-le}
-use native.Mathlib.Omega.{arith}
-use mathlib.Core.Bool.{Bool, true, false, not}
-use lib.Dec.{T, lit<}
-use lib.IntN.{pos}
-use lib.Ieee.{Float, nan, inf, fin, Format, binary64, unlike, neg, add, mul, div, le, fits}
+use Rattle.std.proofs.Common.{◌≡◌, refl, sym, ap, ◌∙◌, subst, ℕ, ◌+◌, ◌-◌, ◌*◌, ◌/◌, ◌^◌, ◌≤◌, ◌<◌, mul-pos, le_of_mul-le-mul_right, lt_of_mul-lt-mul_right, arith, Bool, true, false, not, T, lit<, pos, Float}
+use native.Mathlib.Nat.{mul-div-le}
+use lib.Ieee.{nan, inf, fin, Format, binary64, unlike, neg, add, mul, div, le, fits}
 use lib.Ieee.Fits.{add-fits, div-fits, mul-fits, neg-fits}
 use lib.Ieee.Scale.{finite}
 use Rattle.floats.proofs.Rounding.{rnd, Near, rnd_all, rnd_whole}

@@ -1,15 +1,10 @@
 -- The error of a whole expression of sums, differences and products, by computation.
 -- Proved (`sound`): for a tree of operations and bounds on its variables, the result is finite, at most `mg` in size, and within `er` of the polynomial `ex` that it stands for; all three are computed from the tree.
 -- By induction on the tree: the error of one operation (`add_bd`, `mul_bd`, from Error) and the errors of the parts, whose sum is an identity of polynomials.
-use mathlib.Core.Path.{◌≡◌, refl, sym, ap, ◌∙◌, subst}
+use Rattle.std.proofs.Common.{◌≡◌, refl, sym, ap, ◌∙◌, subst, Bool, true, false, ◌&&◌, ℕ, zero, suc, ◌+◌, ◌-◌, ◌*◌, ◌/◌, ◌^◌, ◌≤◌, ◌<◌, le_trans, le_of_eq, lt_of_le_of_lt, lt_of_lt_of_le, mul-le-mul_right, mul-le-mul_left, le_of_mul-le-mul_right, lt_of_mul-lt-mul_right, mul_comm, arith, T, leb, leb→le, lit≤, lit<, pow-add, Float}
 use mathlib.Core.List.{List, [], ◌∷◌}
-use mathlib.Core.Bool.{Bool, true, false, ◌&&◌}
-use Prim.Native.Nat.{ℕ, zero, suc, ◌+◌, ◌-◌, ◌*◌, ◌/◌, ◌^◌, ◌≤◌, ◌<◌, max}
-use native.Mathlib.Nat.{le_trans, le_of_eq, lt_of_le_of_lt, lt_of_lt_of_le, mul-le-mul_right, mul-le-mul_left, le_of_mul-le-mul_right, lt_of_mul-lt-mul_right, mul_comm}
-use native.Mathlib.Omega.{arith}
-use lib.Dec.{T, leb, leb→le, lit≤, lit<}
-use lib.Pow.{pow-add}
-use lib.Ieee.{Float, nan, Format, binary64, neg, add, sub, mul}
+use Prim.Native.Nat.{max}
+use lib.Ieee.{nan, Format, binary64, neg, add, sub, mul}
 use lib.Ieee.Fits.{and_l, and_r}
 use Rattle.floats.proofs.Rounding.{Near}
 use Rattle.floats.proofs.Rounding.Units.{U, O, mag, sub_opens}

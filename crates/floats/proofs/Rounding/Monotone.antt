@@ -3,14 +3,8 @@
 -- (`add-mono`, `mul_mono`), a quotient grows with x and shrinks with y (`div_sizes`);
 -- so 1 / (1 + s + t) <= 1 / (1 + s) <= 1 (`damping`), and the quotient of the two
 -- is from 0 to 1 (`ratio`). By units: rounding keeps the order.
-use mathlib.Core.Path.{◌≡◌, sym, subst}
-use mathlib.Core.Logic.{inl, inr}
-use Prim.Native.Nat.{ℕ, ◌+◌, ◌*◌, ◌≤◌, ◌<◌, zero-le}
-use native.Mathlib.Nat.{le_refl, le_trans, le_of_eq, lt_of_le_of_lt, lt_of_lt_of_le, lt_irrefl, le_of_lt, mul-le-mul_right, mul-le-mul, mul-pos, add-le-add, le-add_right}
-use native.Mathlib.Omega.{arith}
-use mathlib.Core.Bool.{Bool, true, false}
-use lib.Dec.{T, lit<}
-use lib.Ieee.{Float, inf, fin, Format, binary64, add, mul, div, le, lt, fits}
+use Rattle.std.proofs.Common.{◌≡◌, sym, subst, inl, inr, ℕ, ◌+◌, ◌*◌, ◌≤◌, ◌<◌, zero-le, le_refl, le_trans, le_of_eq, lt_of_le_of_lt, lt_of_lt_of_le, lt_irrefl, le_of_lt, mul-le-mul_right, mul-le-mul, mul-pos, add-le-add, le-add_right, arith, Bool, true, false, T, lit<, Float}
+use lib.Ieee.{inf, fin, Format, binary64, add, mul, div, le, lt, fits}
 use lib.Ieee.Fits.{div-fits}
 use lib.Ieee.Scale.{finite}
 use Rattle.floats.proofs.Rounding.{rnd, rnd_idem, rnd-mono}

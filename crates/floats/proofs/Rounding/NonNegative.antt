@@ -3,15 +3,8 @@
 -- Proved: what the test `0.0 <= x` tells (`ext_of`, `fine_of`, `share_of`), the order by units (`ext_le`, `le_ext`), and a sum,
 -- a difference, a product and a quotient by units (`add_ext`, `sub-fine`, `mul_ext`, `div_ext`, `div_inf`); whole numbers (`int_is`).
 -- Each goes by the signs of the two values to the law of Units, and by whether the result is below O.
-use mathlib.Core.Path.{◌≡◌, refl, sym, ap, ◌∙◌, subst}
-use mathlib.Core.Logic.{◌⊎◌, inl, inr}
-use Prim.Native.Nat.{ℕ, ◌+◌, ◌-◌, ◌*◌, ◌^◌, ◌≤◌, ◌<◌, zero-le}
-use native.Mathlib.Nat.{le_refl, le_trans, le_of_eq, lt_of_le_of_lt, lt_irrefl, mul-one, mul_right_comm, zero-mul, mul-pos}
-use native.Mathlib.Omega.{arith}
-use mathlib.Core.Bool.{Bool, true, false, not, true≢false}
-use lib.Dec.{T, ltb→lt, lit<, lt→ltb}
-use lib.IntN.{pos}
-use lib.Ieee.{Float, nan, inf, fin, Format, binary64, unlike, up, down, round, neg, sum, add, sub, mul, div, le, lt, eq, of_int, fits}
+use Rattle.std.proofs.Common.{◌≡◌, refl, sym, ap, ◌∙◌, subst, ◌⊎◌, inl, inr, ℕ, ◌+◌, ◌-◌, ◌*◌, ◌^◌, ◌≤◌, ◌<◌, zero-le, le_refl, le_trans, le_of_eq, lt_of_le_of_lt, lt_irrefl, mul-one, mul_right_comm, zero-mul, mul-pos, arith, Bool, true, false, not, true≢false, T, ltb→lt, lit<, lt→ltb, pos, Float}
+use lib.Ieee.{nan, inf, fin, Format, binary64, unlike, up, down, round, neg, sum, add, sub, mul, div, le, lt, eq, of_int, fits}
 use lib.Ieee.Back.{round_whole}
 use lib.Ieee.Exact.{HasValue}
 use lib.Ieee.Fits.{down_pos}

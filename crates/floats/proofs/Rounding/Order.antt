@@ -1,11 +1,7 @@
 -- `<` on the finite values of the format, by value: two are never below each other (`lt_asym`), and where y is below x and not below z, z is below x (`lt_cotrans`).
 -- By the two comparisons' tests on whole numbers: of two finite values either the first is below the second, or the second is at most the first.
-use mathlib.Core.Bool.{Bool, true, false, ◌||◌}
-use mathlib.Core.Logic.{inl, inr}
-use Prim.Native.Nat.{ℕ, ◌+◌, ◌*◌}
-use native.Mathlib.Omega.{arith}
-use lib.Dec.{T, ltb→lt, lt→ltb}
-use lib.Ieee.{Float, fin, binary64, fits, lt, le, eq, below, up, down}
+use Rattle.std.proofs.Common.{Bool, true, false, ◌||◌, inl, inr, ℕ, ◌+◌, ◌*◌, arith, T, ltb→lt, lt→ltb, Float}
+use lib.Ieee.{fin, binary64, fits, lt, le, eq, below, up, down}
 use Rattle.floats.specs.Float.{is_finite}
 use Rattle.floats.proofs.Rounding.{below_or_from}
 use Rattle.floats.proofs.Rounding.Units.{Below, test→below, below→test}

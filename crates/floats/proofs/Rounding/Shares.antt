@@ -3,15 +3,8 @@
 -- (`quotient`); x and 1 - x add up to 1 exactly for x from 0 to 1 (`shares`);
 -- the square of (x - y) / (x + y) is from 0 to 1 (`contrast`).
 -- All by the order of the rounded numbers of units; `shares` by the error of the one rounding, which is below half a step under 1.
-use mathlib.Core.Path.{◌≡◌, refl, sym, ◌∙◌, subst}
-use mathlib.Core.Logic.{◌⊎◌, inl, inr}
-use Prim.Native.Nat.{ℕ, ◌+◌, ◌-◌, ◌*◌, ◌/◌, ◌^◌, ◌≤◌, ◌<◌, zero-le}
-use native.Mathlib.Nat.{le_trans, le_of_eq, le_antisymm, lt_of_le_of_lt, lt_irrefl, eq-or-lt_of_le, mul-le-mul_right, mul-le-mul_left, mul-le-mul, mul-pos, sub-le}
-use native.Mathlib.Omega.{arith}
-use mathlib.Core.Bool.{Bool, true, false, not}
-use lib.Dec.{T, lit≤, lit<}
-use lib.Pow.{pow_mono}
-use lib.Ieee.{Float, inf, fin, Format, binary64, unlike, size, round, neg, add, sub, mul, div, le, lt, fits}
+use Rattle.std.proofs.Common.{◌≡◌, refl, sym, ◌∙◌, subst, ◌⊎◌, inl, inr, ℕ, ◌+◌, ◌-◌, ◌*◌, ◌/◌, ◌^◌, ◌≤◌, ◌<◌, zero-le, le_trans, le_of_eq, le_antisymm, lt_of_le_of_lt, lt_irrefl, eq-or-lt_of_le, mul-le-mul_right, mul-le-mul_left, mul-le-mul, mul-pos, sub-le, arith, Bool, true, false, not, T, lit≤, lit<, pow_mono, Float}
+use lib.Ieee.{inf, fin, Format, binary64, unlike, size, round, neg, add, sub, mul, div, le, lt, fits}
 use lib.Ieee.Digits.{size-le}
 use lib.Ieee.Fits.{add-fits}
 use lib.Ieee.Order.{drop}

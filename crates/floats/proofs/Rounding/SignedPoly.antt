@@ -1,15 +1,10 @@
 -- Signed numbers as pairs of naturals, p - n. Their sums and products obey the laws of a commutative semiring strictly, so polynomial identities are decided by computation, and so are bounds.
 -- Proved: an expression whose normal form cancels is zero (`poly`), two expressions that differ by nothing have the same size (`ab_poly`); the size of sums and products (`ab-add`, `ab-mul`);
 -- and a bound on the size of a homogeneous polynomial, computed from bounds on its variables (`bounded`). `Bd j a b`: 2 ^ 64 times the size of a is at most b * U ^ j.
-use mathlib.Core.Path.{◌≡◌, refl, sym, ap, ◌∙◌, subst}
-use mathlib.Core.Logic.{◌⊎◌, inl, inr}
+use Rattle.std.proofs.Common.{◌≡◌, refl, sym, ap, ◌∙◌, subst, ◌⊎◌, inl, inr, Bool, true, false, ◌&&◌, ℕ, zero, suc, ◌+◌, ◌-◌, ◌*◌, ◌/◌, ◌^◌, ◌≤◌, ◌<◌, le_trans, le_of_eq, mul-le-mul_right, mul-le-mul_left, mul-le-mul, le_of_mul-le-mul_right, mul-pos, mul-one, mul_comm, mul_right_comm, arith, T, eqb, eqb→eq, leb, lit<, pow-add}
 use mathlib.Core.List.{List, [], ◌∷◌}
-use mathlib.Core.Bool.{Bool, true, false, ◌&&◌}
-use Prim.Native.Nat.{ℕ, zero, suc, ◌+◌, ◌-◌, ◌*◌, ◌/◌, ◌^◌, ◌≤◌, ◌<◌, compare, Ordering}
-use native.Mathlib.Nat.{le_trans, le_of_eq, mul-le-mul_right, mul-le-mul_left, mul-le-mul, le_of_mul-le-mul_right, mul-pos, mul-one, pow-zero, pow-succ', mul_comm, mul_right_comm}
-use native.Mathlib.Omega.{arith}
-use lib.Dec.{T, eqb, eqb→eq, leb, lit<}
-use lib.Pow.{pow-add}
+use Prim.Native.Nat.{compare, Ordering}
+use native.Mathlib.Nat.{pow-zero, pow-succ'}
 use lib.Ieee.Fits.{and_l, and_r}
 use Rattle.floats.proofs.Rounding.{below_or_from}
 use Rattle.floats.proofs.Rounding.Units.{U, U_pos}

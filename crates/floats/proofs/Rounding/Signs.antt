@@ -3,15 +3,9 @@
 -- Proved for any floats at all: absolute values and squares are `Plus`; sums and products of such are; products of values `NotNegative`
 -- are, quotients of one by a `Plus` divisor, and `max` with 0 of anything. A finite value `NotNegative` is not below 0 by the order
 -- (`not_below_le`), and one that is at most 1 is a share (`at_most_one`). By cases on the values and the sign that `round` keeps.
-use mathlib.Core.Path.{◌≡◌, refl, sym, ap, ◌∙◌, subst}
-use mathlib.Core.Logic.{◌⊎◌, inl, inr}
-use mathlib.Core.Bool.{beq, Bool, true, false, not, cond, true≢false}
-use Prim.Native.Nat.{ℕ, zero, suc, ◌+◌, ◌*◌, ◌≤◌, ◌<◌, zero-le}
-use native.Mathlib.Nat.{lt_of_le_of_lt, mul-pos, not-le_of_lt, le_of_eq, zero-lt-suc, zero-mul}
-use native.Mathlib.Omega.{arith}
-use lib.IntN.{ℤ}
-use lib.Dec.{T, eqb, ltb, nltb→le}
-use lib.Ieee.{Float, nan, inf, fin, Format, binary64, unlike, up, down, sum, round, is_nan, add, mul, div, le, lt, eq}
+use Rattle.std.proofs.Common.{◌≡◌, refl, sym, ap, ◌∙◌, subst, ◌⊎◌, inl, inr, Bool, true, false, not, cond, true≢false, ℕ, zero, suc, ◌+◌, ◌*◌, ◌≤◌, ◌<◌, zero-le, lt_of_le_of_lt, mul-pos, not-le_of_lt, le_of_eq, zero-lt-suc, zero-mul, arith, ℤ, T, eqb, ltb, nltb→le, Float}
+use mathlib.Core.Bool.{beq}
+use lib.Ieee.{nan, inf, fin, Format, binary64, unlike, up, down, sum, round, is_nan, add, mul, div, le, lt, eq}
 use lib.Ieee.Fits.{eq→eqb, up_pos, down_pos}
 use lib.Ieee.Scale.{finite}
 use Rattle.floats.proofs.Rounding.{rnd, below_or_from}

@@ -3,17 +3,9 @@
 -- not negative (`root_upto`, `root_max`), half of one, the negative of one (`half`, `neg_upto`), and a quotient by a divisor that is
 -- away from 0 (`divide`). `N x ≡ 0` says that a finite x is not below 0; what fails or passes a test is in parts P x - N x
 -- (`nlt_parts`, `lt-zero`, `not_neg`). By Expression, WholeRoot and the order of rounded quotients.
-use mathlib.Core.Path.{◌≡◌, refl, sym, ap, ◌∙◌, subst}
-use mathlib.Core.Logic.{inl, inr}
+use Rattle.std.proofs.Common.{◌≡◌, refl, sym, ap, ◌∙◌, subst, inl, inr, Bool, true, false, not, cond, ℕ, zero, suc, ◌+◌, ◌-◌, ◌*◌, ◌^◌, ◌≤◌, ◌<◌, zero-le, le_trans, le_of_eq, lt_of_le_of_lt, lt_of_lt_of_le, lt_irrefl, mul-le-mul_right, mul-le-mul_left, mul-le-mul, mul-pos, mul-zero, one-mul, zero-lt-suc, arith, ℤ, T, ltb, ltb→lt, nltb→le, lit≤, lit<, pow-add, pow_mono, Float}
 use mathlib.Core.List.{List, [], ◌∷◌}
-use mathlib.Core.Bool.{Bool, true, false, not, cond}
-use Prim.Native.Nat.{ℕ, zero, suc, ◌+◌, ◌-◌, ◌*◌, ◌^◌, ◌≤◌, ◌<◌, zero-le}
-use native.Mathlib.Nat.{le_trans, le_of_eq, lt_of_le_of_lt, lt_of_lt_of_le, lt_irrefl, mul-le-mul_right, mul-le-mul_left, mul-le-mul, mul-pos, mul-zero, one-mul, zero-lt-suc}
-use native.Mathlib.Omega.{arith}
-use lib.IntN.{ℤ}
-use lib.Dec.{T, ltb, ltb→lt, nltb→le, lit≤, lit<}
-use lib.Pow.{pow-add, pow_mono}
-use lib.Ieee.{Float, nan, inf, fin, Format, binary64, unlike, up, down, below, is_nan, round, neg, le, lt, fits}
+use lib.Ieee.{nan, inf, fin, Format, binary64, unlike, up, down, below, is_nan, round, neg, le, lt, fits}
 use lib.Ieee.Fits.{up_pos, down_pos}
 use Rattle.floats.proofs.Rounding.{rnd, rnd_fix, below_or_from}
 use Rattle.floats.proofs.Rounding.Units.{U, O, U_is, U_pos, Is, is_of, sign, mag, Below, move, div_is, round_units, round_over, units_pos, le-finite, zero_units, over, over'}

@@ -5,16 +5,13 @@
 -- and the operations (`neg_is`, `add_is` with `sum_is`, `mul_is`, `div_is`) by sign and units; a product of any two is the same in either order (`product_comm`).
 -- The fractions that the kit's definitions hold are brought over U; two values are the
 -- same since their bit patterns are made from sign and units alone.
-use mathlib.Core.Path.{◌≡◌, refl, sym, ap, ◌∙◌, subst}
-use mathlib.Core.Logic.{◌⊎◌, inl, inr}
-use Prim.Native.Nat.{ℕ, zero, suc, ◌+◌, ◌-◌, ◌*◌, ◌/◌, ◌%◌, ◌^◌, ◌≤◌, ◌<◌, zero-le}
-use native.Mathlib.Nat.{lt_of_le_of_lt, lt_irrefl, mul_comm, mul_assoc, mul_right_comm, mul-le-mul_right, mul-one, le_of_mul-le-mul_right, mul-lt-mul_of_pos_right, lt_of_mul-lt-mul_right, eq_of_mul-eq-mul_right, mul-pos, mul-div_cancel, not-le_of_lt, mul-mul-mul_comm, mul-sub, zero-lt-suc}
-use native.Mathlib.Omega.{arith}
-use mathlib.Core.Bool.{Bool, true, false, not, ◌&&◌, ◌||◌, beq, cond}
-use lib.IntN.{ℤ, pos, negsuc}
-use lib.Dec.{T, leb, ltb, eqb, ltb→lt, lt→ltb, nltb→le, leb→le, eqb→eq, lit<, not_T}
-use lib.Pow.{pow-add, pow_pos, pow-lt}
-use lib.Ieee.{Float, nan, inf, fin, Format, binary64, unlike, up, down, size, odd, units, round, neg, sum, add, sub, mul, div, below, level, le, lt, eq, fits, to_bits, of_bits}
+use Rattle.std.proofs.Common.{◌≡◌, refl, sym, ap, ◌∙◌, subst, ◌⊎◌, inl, inr, ℕ, zero, suc, ◌+◌, ◌-◌, ◌*◌, ◌/◌, ◌%◌, ◌^◌, ◌≤◌, ◌<◌, zero-le, lt_of_le_of_lt, lt_irrefl, mul_comm, mul_assoc, mul_right_comm, mul-le-mul_right, mul-one, le_of_mul-le-mul_right, mul-lt-mul_of_pos_right, lt_of_mul-lt-mul_right, mul-pos, mul-div_cancel, not-le_of_lt, zero-lt-suc, arith, Bool, true, false, not, ◌&&◌, ◌||◌, cond, ℤ, pos, T, leb, ltb, eqb, ltb→lt, lt→ltb, nltb→le, leb→le, eqb→eq, lit<, pow-add, pow_pos, Float}
+use native.Mathlib.Nat.{eq_of_mul-eq-mul_right, mul-mul-mul_comm, mul-sub}
+use mathlib.Core.Bool.{beq}
+use lib.IntN.{negsuc}
+use lib.Dec.{not_T}
+use lib.Pow.{pow-lt}
+use lib.Ieee.{nan, inf, fin, Format, binary64, unlike, up, down, size, odd, units, round, neg, sum, add, sub, mul, div, below, level, le, lt, eq, fits, to_bits, of_bits}
 use lib.Ieee.Fits.{down_pos, and_l, and_r, and_i, round_is, eq→eqb, up_pos}
 use lib.Ieee.Exact.{HasValue, units_val}
 use lib.Ieee.Order.{drop, kept}

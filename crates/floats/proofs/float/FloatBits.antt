@@ -1,11 +1,8 @@
 -- The methods of `f64` that read a bit pattern: `x != x` is the test for NaN (`nan_test`); of a value that is none the sign is the pattern's highest bit (`sign_test`), the rest of the pattern is that of the absolute value (`abs-bits`), and the sign bit with the pattern of 1.0 is `signum` (`signum-bits`).
 -- A value that fits its format is given back by its pattern, so each fact is one about the value of a pattern, by its three fields.
-use mathlib.Core.Path.{◌≡◌, refl, sym, ap, ◌∙◌, subst}
-use Prim.Native.Nat.{ℕ, zero, suc, ◌+◌, ◌*◌, ◌/◌, ◌%◌, ◌≤◌}
-use native.Mathlib.Omega.{arith}
-use mathlib.Core.Bool.{Bool, true, false, not, cond, true≢false}
-use lib.Dec.{T, leb, eqb, eqb_refl}
-use lib.Ieee.{Float, nan, inf, fin, binary64, is_nan, ne, fits, to_bits, of_bits, of_fields, odd, nan_bits, up, down}
+use Rattle.std.proofs.Common.{◌≡◌, refl, sym, ap, ◌∙◌, subst, ℕ, zero, suc, ◌+◌, ◌*◌, ◌/◌, ◌%◌, ◌≤◌, arith, Bool, true, false, not, cond, true≢false, T, leb, eqb, Float}
+use lib.Dec.{eqb_refl}
+use lib.Ieee.{nan, inf, fin, binary64, is_nan, ne, fits, to_bits, of_bits, of_fields, odd, nan_bits, up, down}
 use borrow.Author.Tests.{lt-leb, leb-true, leb-false}
 use lib.Ieee.Compare.{differs_from_itself}
 use denote.Floats.{passes}

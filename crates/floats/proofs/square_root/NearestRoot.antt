@@ -4,15 +4,9 @@
 -- U), rounded up. Those digits put √(n * U) strictly between two midpoints,
 -- (2 * q - 1) * 2 ^ b and (2 * q + 1) * 2 ^ b, and values of 53 digits next to q * 2 ^ (b + 1) are 2 ^ (b + 1) apart. The one
 -- exception, the half step below a power of two, is met where Q is even, and then √(n * U) is not below the root.
-use mathlib.Core.Path.{◌≡◌, refl, sym, ap, ◌∙◌, subst}
-use mathlib.Core.Logic.{◌⊎◌, inl, inr}
-use Prim.Native.Nat.{ℕ, zero, suc, ◌+◌, ◌-◌, ◌*◌, ◌/◌, ◌%◌, ◌^◌, ◌≤◌, ◌<◌}
-use native.Mathlib.Nat.{le_trans, le_of_eq, lt_of_le_of_lt, lt_of_lt_of_le, mul_assoc, mul-le-mul_right, mul-le-mul, mul-pos, mul-mul-mul_comm, mul-lt-mul_of_pos_right, lt_of_mul-lt-mul_right, eq-or-lt_of_le}
-use native.Mathlib.Omega.{arith}
-use mathlib.Core.Bool.{Bool, false}
-use lib.Dec.{T, ltb→lt}
-use lib.Pow.{pow-add, pow_pos}
-use lib.Ieee.{Float, fin, binary64, up, down, size, fits, lt}
+use Rattle.std.proofs.Common.{◌≡◌, refl, sym, ap, ◌∙◌, subst, ◌⊎◌, inl, inr, ℕ, zero, suc, ◌+◌, ◌-◌, ◌*◌, ◌/◌, ◌%◌, ◌^◌, ◌≤◌, ◌<◌, le_trans, le_of_eq, lt_of_le_of_lt, lt_of_lt_of_le, mul_assoc, mul-le-mul_right, mul-le-mul, mul-pos, mul-lt-mul_of_pos_right, lt_of_mul-lt-mul_right, eq-or-lt_of_le, arith, Bool, false, T, ltb→lt, pow-add, pow_pos, Float}
+use native.Mathlib.Nat.{mul-mul-mul_comm}
+use lib.Ieee.{fin, binary64, up, down, size, fits, lt}
 use lib.Ieee.Order.{drop, kept}
 use Rattle.floats.specs.Float.{f0, is_finite}
 use Rattle.floats.specs.SquareRoot.{root_of_units, square_root, sqrt, Size, Nearer, NearestRoot, SquareRoot}

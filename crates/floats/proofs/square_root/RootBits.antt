@@ -3,16 +3,9 @@
 -- the digits of the root of m * 4 ^ h are the whole number nearest to the root of m * 2 ^ 52 (`root_at`, `nearest-pattern`);
 -- the root of a value by its units (`root_by_units`), and a value's size (`size_of`);
 -- and the values that have no digits to compute (`negative_case`, `own_case`).
-use mathlib.Core.Path.{◌≡◌, refl, sym, ap, ◌∙◌, subst}
-use mathlib.Core.Logic.{inl, inr}
-use Prim.Native.Nat.{ℕ, zero, suc, ◌+◌, ◌-◌, ◌*◌, ◌/◌, ◌%◌, ◌^◌, ◌≤◌, ◌<◌}
-use native.Mathlib.Nat.{le_trans, lt_of_le_of_lt, lt_of_lt_of_le, mul_assoc, mul-le-mul_left, mul-le-mul_right, mul-le-mul, mul-pos, zero-lt-suc}
-use native.Mathlib.Omega.{arith}
-use mathlib.Core.Bool.{Bool, true, false, not, true≢false}
-use lib.IntN.{ℤ, pos}
-use lib.Dec.{T, leb, eqb, ltb→lt, lt→ltb, eqb→eq, not_T, lit<, lit≤}
-use lib.Pow.{pow-add, pow_mono}
-use lib.Ieee.{Float, nan, inf, fin, Format, binary64, of_fields, of_bits, nan_bits, lt, fits, up, down}
+use Rattle.std.proofs.Common.{◌≡◌, refl, sym, ap, ◌∙◌, subst, inl, inr, ℕ, zero, suc, ◌+◌, ◌-◌, ◌*◌, ◌/◌, ◌%◌, ◌^◌, ◌≤◌, ◌<◌, le_trans, lt_of_le_of_lt, lt_of_lt_of_le, mul_assoc, mul-le-mul_left, mul-le-mul_right, mul-le-mul, mul-pos, zero-lt-suc, arith, Bool, true, false, not, true≢false, ℤ, pos, T, leb, eqb, ltb→lt, lt→ltb, eqb→eq, lit<, lit≤, pow-add, pow_mono, Float}
+use lib.Dec.{not_T}
+use lib.Ieee.{nan, inf, fin, Format, binary64, of_fields, of_bits, nan_bits, lt, fits, up, down}
 use lib.Ieee.Positive.{positive}
 use lib.Ieee.Bits.{is_true, is_false, nan_bits_above, of_bits-fits}
 use lib.Arith.{lt→nleb, le→nltb}

@@ -1,14 +1,9 @@
 -- The root by digits. Proved: `EachDigit` of specs/RootDigits.antt (`each_digit`), by one digit (`next`) and the bits that it takes
 -- (`taken_up`); that root has no more binary digits than were made (`width`); and for the code: a digit as a number (`bit-digit`), the two bits of
 -- m * 2 ^ 52 by their places (`two_high`, `two_low`), what a digit needs (`ready`) and gives (`turn`), and the nearest root at the end (`last_digit`).
-use mathlib.Core.Path.{◌≡◌, refl, sym, ap, ◌∙◌, subst}
-use Prim.Native.Nat.{ℕ, zero, suc, ◌+◌, ◌-◌, ◌*◌, ◌/◌, ◌%◌, ◌^◌, ◌≤◌, ◌<◌}
-use native.Mathlib.Nat.{le_of_eq, lt_of_lt_of_le, mul-mod_left, mul-div_cancel, mul-div-mul_right, div-div-eq-div-mul, div-eq_of_lt, div-one, mul-one, add-zero}
-use native.Mathlib.Numerals.{add-one}
-use native.Mathlib.Omega.{arith}
-use mathlib.Core.Bool.{Bool, true, false, not, cond}
-use lib.Dec.{T, leb, ltb, leb→le, ltb→lt, nleb→lt, nltb→le, lit<}
-use lib.Pow.{pow-add, pow_pos, pow_mono}
+use Rattle.std.proofs.Common.{◌≡◌, refl, sym, ap, ◌∙◌, subst, ℕ, zero, suc, ◌+◌, ◌-◌, ◌*◌, ◌/◌, ◌%◌, ◌^◌, ◌≤◌, ◌<◌, le_of_eq, lt_of_lt_of_le, mul-div_cancel, div-one, mul-one, add-zero, add-one, arith, Bool, true, false, not, cond, T, leb, ltb, leb→le, ltb→lt, nltb→le, lit<, pow-add, pow_pos, pow_mono}
+use native.Mathlib.Nat.{mul-mod_left, mul-div-mul_right, div-div-eq-div-mul, div-eq_of_lt}
+use lib.Dec.{nleb→lt}
 use Rattle.std.specs.Int.{from_bool}
 use Rattle.floats.specs.RootSteps.{Nearest}
 use Rattle.floats.specs.RootDigits.{RootRem, RootAndRemainder, EachDigit, root_rem, digit, two_bits, taken, after}
@@ -93,10 +88,6 @@ width k N (suc i) h l =
     twice r p q a b = omega arith
 
 -- ---- `digit`: the digit as a number
-pub one_bit : (c : ℕ) (b : Bool) → c ≡ from_bool b → c ≤ 1
-one_bit c true e = omega arith
-one_bit c false e = omega arith
-
 pub bit-digit : (root rem two c : ℕ) → c ≡ from_bool (leb (4 * root + 1) (4 * rem + two))
     → root_rem (2 * root + c) (4 * rem + two - (4 * root + 1) * c) ≡ digit root rem two
 unfolding digit
@@ -165,9 +156,6 @@ module _ (m i w : ℕ) (s : RootRem) (a : s ≡ after 53 (m * 2 ^ 52) i) (b : w 
       ∙ ap (digit (after 53 N i).root (after 53 N i).rem) b
       ∙ ap (after 53 N) (sym (add-one i))
 
-pub few_digits : (m : ℕ) (s : RootRem) → m < 2 ^ 54 → s ≡ after 53 (m * 2 ^ 52) 53 → s.root < 2 ^ 53
-few_digits m s h a = rw a (width 53 (m * 2 ^ 52) 53 (under m h) (omega arith))
-
 -- After the last digit all of m * 2 ^ 52 is taken: the nearest to its root is the whole root, and one more where the remainder is above it.
 pub last_digit : (m c : ℕ) (s : RootRem) → 0 < m → m < 2 ^ 54 → s ≡ after 53 (m * 2 ^ 52) 53 → c ≡ from_bool (ltb s.root s.rem)
     → (s.root < 2 ^ 53) × Nearest (s.root + c) (m * 2 ^ 52)
@@ -175,7 +163,7 @@ unfolding taken
 last_digit m c s p h a e =
     let N = m * 2 ^ 52 in
     let v : RootAndRemainder (N / 1) s = rw a (each_digit 53 N 53 (under m h) (omega arith)) in (
-      few_digits m s h a,
+      rw a (width 53 N 53 (under m h) (omega arith)),
       go s.root s.rem N (omega arith) (v.same ∙ div-one N) v.small (ltb s.root s.rem) (ltb→lt s.root s.rem)
           (nltb→le s.root s.rem) e,
     )

@@ -2,16 +2,9 @@
 -- Proved: how many digits a subnormal lacks (`lacking_of`); d * 2 ^ e as m * 4 ^ h, by the parity of e (`placed_at`);
 -- the units of a value from its bit pattern (`opened`), so that what `of` returns is its operand
 -- (`subnormal_scaled`, `normal_scaled`); and the operand's root is the value's (`root_scaled`).
-use mathlib.Core.Path.{◌≡◌, refl, sym, ap, ◌∙◌, subst}
-use mathlib.Core.Logic.{◌⊎◌, inl, inr}
-use Prim.Native.Nat.{ℕ, zero, suc, ◌+◌, ◌-◌, ◌*◌, ◌/◌, ◌%◌, ◌^◌, ◌≤◌, ◌<◌}
-use native.Mathlib.Nat.{le_trans, le_of_eq, lt_of_lt_of_le, lt_irrefl, mul_assoc, mul-le-mul_right, mul-one, mul-div_cancel, mul-lt-mul_of_pos_right, eq-zero-or-pos, le-div_iff_mul-le}
-use native.Mathlib.Omega.{arith}
-use mathlib.Core.Bool.{false, not}
+use Rattle.std.proofs.Common.{◌≡◌, refl, sym, ap, ◌∙◌, subst, ◌⊎◌, inl, inr, ℕ, zero, suc, ◌+◌, ◌-◌, ◌*◌, ◌/◌, ◌%◌, ◌^◌, ◌≤◌, ◌<◌, le_trans, le_of_eq, lt_of_lt_of_le, lt_irrefl, mul_assoc, mul-le-mul_right, mul-one, mul-div_cancel, mul-lt-mul_of_pos_right, eq-zero-or-pos, le-div_iff_mul-le, arith, false, not, T, lit≤, pow-add, pow_pos, pow_mono, Float}
 use lib.Count.{count_leading_zeros, leading_top}
-use lib.Dec.{T, lit≤}
-use lib.Pow.{pow-add, pow_pos, pow_mono}
-use lib.Ieee.{Float, fin, Format, binary64, to_bits, is_nan, fits, size}
+use lib.Ieee.{fin, Format, binary64, to_bits, is_nan, fits, size}
 use lib.Ieee.Digits.{size-le, size_reaches}
 use lib.Ieee.Order.{drop, kept}
 use lib.Ieee.Positive.{positive}

@@ -1,13 +1,8 @@
 -- The root of max(x, 0) without the maximum: of a value above 0 it is the value's root (`above`, by units `rooted`), of a zero the zero itself (`at_zero`), and else 0 (`below`). By the cases of a float.
-use mathlib.Core.Path.{◌≡◌, refl, sym, ap, ◌∙◌, subst}
-use Prim.Native.Nat.{ℕ, zero, suc, ◌+◌, ◌*◌, ◌<◌}
-use native.Mathlib.Nat.{mul-pos, zero-lt-suc}
-use native.Mathlib.Omega.{arith}
-use mathlib.Core.Bool.{Bool, true, false, cond, true≢false}
-use lib.IntN.{ℤ}
-use lib.Dec.{T, ltb, eqb, lt→ltb, eqb→eq, eqb_refl}
+use Rattle.std.proofs.Common.{◌≡◌, refl, sym, ap, ◌∙◌, subst, ℕ, zero, suc, ◌+◌, ◌*◌, ◌<◌, mul-pos, zero-lt-suc, arith, Bool, true, false, cond, true≢false, ℤ, T, ltb, eqb, lt→ltb, eqb→eq, Float}
+use lib.Dec.{eqb_refl}
 use lib.Arith.{le→nltb}
-use lib.Ieee.{Float, nan, inf, fin, Format, binary64, lt, eq, is_nan, up, down, fits}
+use lib.Ieee.{nan, inf, fin, Format, binary64, lt, eq, is_nan, up, down, fits}
 use lib.Ieee.Bits.{is_true, is_false}
 use lib.Ieee.Fits.{and_l, up_pos}
 use Rattle.floats.specs.Float.{f0, max}

@@ -1,19 +1,14 @@
 -- The square root that specs/SquareRoot.antt defines, by units.
 -- Proved: `isqrt` is the whole root (`isqrt-root`), which is determined (`root_unique`); from the 54 leading digits Q of √(n * U)
--- the rounded root is half of Q, rounded up (`root_of_value`); and it is within 2 ^ -53 of √(n * U), relatively (`root_of_err`).
+-- the rounded root is half of Q, rounded up (`root_of_value`), at however many places below the unit it is computed (`root_by_places`);
+-- and it is within 2 ^ -53 of √(n * U), relatively (`root_of_err`).
 -- All that can stand below the 54 digits lies strictly between two midpoints, so it rounds the same way,
 -- but for nothing at all: that is all that `sticky` has to tell.
-use mathlib.Core.Path.{◌≡◌, refl, sym, ap, ◌∙◌, subst}
-use mathlib.Core.Logic.{◌⊎◌, inl, inr}
-use Prim.Native.Nat.{ℕ, zero, suc, ◌+◌, ◌-◌, ◌*◌, ◌/◌, ◌%◌, ◌^◌, ◌≤◌, ◌<◌, zero-le}
-use native.Mathlib.Nat.{le_refl, le_trans, le_of_eq, lt_of_le_of_lt, lt_of_lt_of_le, lt_irrefl, mul_comm, mul_assoc, mul-le-mul_right, mul-le-mul_left, mul-le-mul, mul-one, one-mul, mul-pos, lt_of_mul-lt-mul_right, mul-lt-mul_of_pos_right, not-le_of_lt, le_of_suc-le-suc, eq-or-lt_of_le, eq_of_mul-eq-mul_right, le-add_right, add-zero, mul-mul-mul_comm}
-use native.Mathlib.Omega.{arith}
-use native.Mathlib.Numerals.{add-one}
+use Rattle.std.proofs.Common.{◌≡◌, refl, sym, ap, ◌∙◌, subst, ◌⊎◌, inl, inr, ℕ, zero, suc, ◌+◌, ◌-◌, ◌*◌, ◌/◌, ◌%◌, ◌^◌, ◌≤◌, ◌<◌, zero-le, le_refl, le_trans, le_of_eq, lt_of_le_of_lt, lt_of_lt_of_le, lt_irrefl, mul_comm, mul_assoc, mul-le-mul_right, mul-le-mul_left, mul-le-mul, mul-one, one-mul, mul-pos, lt_of_mul-lt-mul_right, mul-lt-mul_of_pos_right, not-le_of_lt, le_of_suc-le-suc, eq-or-lt_of_le, le-add_right, add-zero, arith, add-one, Bool, true, false, not, cond, T, leb, eqb, leb→le, eqb→eq, lit≤, lit<, pow-add, pow_pos, pow_mono, Float}
+use native.Mathlib.Nat.{eq_of_mul-eq-mul_right, mul-mul-mul_comm}
 use lib.Ieee.Fits.{eq→eqb}
-use mathlib.Core.Bool.{Bool, true, false, not, cond}
-use lib.Dec.{T, leb, eqb, leb→le, nleb→lt, eqb→eq, lit≤, lit<}
-use lib.Pow.{pow-add, pow_pos, pow_mono}
-use lib.Ieee.{Float, binary64, size, round}
+use lib.Dec.{nleb→lt}
+use lib.Ieee.{binary64, size, round}
 use lib.Ieee.Digits.{size-le}
 use lib.Ieee.Nearest.{closest}
 use lib.Ieee.Order.{drop}
