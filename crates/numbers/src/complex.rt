@@ -1,5 +1,6 @@
 // Complex numbers: lumo's src/math/complex.rs, with document 01's stand-in for the half angle in `sqrt`.
 ghost use Rattle.std.specs.Prelude.{◌≡◌};
+ghost use Rattle.std.specs.Float;
 ghost use Rattle.numbers.specs.Complex.{complex, from_float, norm_sqr, norm, co, cos_half, sin_half, sqrt, add, float_add, sub, float_sub, mul, mul_float, float_mul, is_zero, div, div_float, float_div};
 
 use floats::float;
@@ -90,6 +91,16 @@ impl Complex {
     }
 }
 
+// What a quotient by zero is.
+fn nan() -> Complex
+    ensures { result ≡ complex Float.nan Float.nan }
+{
+    Complex {
+        Re: float::nan(),
+        Im: float::nan(),
+    }
+}
+
 impl From<f64> for Complex {
     ghost from_gives = { λ v r. r ≡ from_float v };
 
@@ -146,10 +157,7 @@ impl Div for Complex {
     #[tactic(auto, unfolding(crate::specs::Complex::div))]
     fn div(self, rhs: Complex) -> Complex {
         if rhs.is_zero() {
-            return Complex {
-                Re: float::nan(),
-                Im: float::nan(),
-            };
+            return nan();
         }
         self * rhs.co() / rhs.norm_sqr()
     }
@@ -176,10 +184,7 @@ impl Div<f64> for Complex {
     #[tactic(auto, unfolding(crate::specs::Complex::div_float))]
     fn div(self, rhs: f64) -> Complex {
         if rhs == 0.0 {
-            return Complex {
-                Re: float::nan(),
-                Im: float::nan(),
-            };
+            return nan();
         }
         Complex {
             Re: self.Re / rhs,
@@ -235,10 +240,7 @@ impl Div<Complex> for f64 {
     #[tactic(auto, unfolding(crate::specs::Complex::float_div))]
     fn div(self, rhs: Complex) -> Complex {
         if rhs.is_zero() {
-            return Complex {
-                Re: float::nan(),
-                Im: float::nan(),
-            };
+            return nan();
         }
         self * rhs.co() / rhs.norm_sqr()
     }

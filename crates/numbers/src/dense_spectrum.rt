@@ -131,10 +131,8 @@ struct Whole {
 fn ceiling(x: f64) -> Whole
     ensures { (result.number ≡ ceiling x) × (result.value ≡ of_int binary64 (pos (ceiling x))) }
 {
-    if 1.0 < x {
-        if x < SMALL_END {
-            return small_ceiling(x);
-        }
+    if 1.0 < x && x < SMALL_END {
+        return small_ceiling(x);
     }
     let number = any_ceiling(x);
     Whole {
@@ -166,14 +164,12 @@ fn small_ceiling(x: f64) -> Whole
 fn any_ceiling(x: f64) -> u64
     ensures { result ≡ ceiling x }
 {
-    if -1.0 < x {
-        if x < 18446744073709551616.0 {
-            let floor = std::num::truncating_f64_to_u64(x);
-            if std::num::nearest_u64_to_f64(floor) < x {
-                return floor + 1;
-            }
-            return floor;
+    if -1.0 < x && x < 18446744073709551616.0 {
+        let floor = std::num::truncating_f64_to_u64(x);
+        if std::num::nearest_u64_to_f64(floor) < x {
+            return floor + 1;
         }
+        return floor;
     }
     0
 }

@@ -5,6 +5,7 @@ use Rattle.numbers.specs.DenseSpectrum.{ceiling}
 use Rattle.numbers.proofs.dense_spectrum.WholePart.{room}
 use denote.Floats.{passes}
 use Rattle.numbers.proofs.dense_spectrum.any_ceiling.Goals as goal
+use Rattle.numbers.proofs.dense_spectrum.any_ceiling.Goals.{else-x-via-then-x+else-x-2, else-x-via-else-x}
 
 pub truncating_f64_to_u64-floor-requires : goal.truncating_f64_to_u64-floor-requires
 unfolding neg of_bits ceiling
@@ -24,10 +25,6 @@ pub returns-then-x-2 : goal.returns-then-x-2
 unfolding neg of_bits ceiling
 returns-then-x-2 c = rw (c.if-x.true, c.if-x-2.true, ← c.truncating_f64_to_u64-floor.ensures, ← c.nearest_u64_to_f64.ensures, c.if-nearest_u64_to_f64-x.false)
 
-pub returns-else-x-2 : goal.returns-else-x-2
+pub returns : goal.returns
 unfolding neg of_bits ceiling
-returns-else-x-2 c = rw (c.if-x.true, c.if-x-2.false)
-
-pub returns-else-x : goal.returns-else-x
-unfolding neg of_bits ceiling
-returns-else-x c = rw c.if-x.false
+returns c = elim c.else-x.branch [ else-x-via-then-x+else-x-2 w ↦ rw (w.if-x.true, w.if-x-2.false) | else-x-via-else-x w ↦ rw w.if-x.false ]
