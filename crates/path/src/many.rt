@@ -5,9 +5,10 @@ ghost use Rattle.std.proofs.Math.Seq.{paste};
 ghost use Rattle.path.specs.Answer.{outcome};
 ghost use Rattle.path.specs.Many.{is_set, path_in, bounce_in, numbers_out, bounced, bounced_at, all_bounced, count_of};
 
+use crate::bsdf;
+use crate::plain::BounceResult;
 use crate::prepared::Prepared;
 use crate::records::{Bounce, Bounced, Path};
-use crate::{bsdf, plain};
 use numbers::vec3::Vec3;
 use optics::color::Color;
 use optics::microfacet::Microsurface;
@@ -78,7 +79,7 @@ fn numbers_out(answer: Bounced) -> [f64; 18]
     ensures { result ≡ numbers_out (outcome answer) }
 {
     let p = answer.path();
-    let r = plain::of_bounced(answer);
+    let r = BounceResult::from(answer);
     let number = std::num::nearest_u64_to_f64(r.number);
     let outcome = std::num::nearest_u64_to_f64(r.outcome);
     let finite = std::num::nearest_u64_to_f64(r.density.finite);

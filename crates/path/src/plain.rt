@@ -24,6 +24,15 @@ pub struct SharesRecord {
     pub passed: f64,
 }
 
+// The cases of an answer, by the number that `outcome` is.
+#[derive(Clone, Copy, PartialEq, Eq, Debug)]
+enum Case {
+    Refused = 0,
+    Lost = 1,
+    Reflected = 2,
+    Passed = 3,
+}
+
 // `outcome` is 0 refused, 1 lost, 2 reflected, 3 passed.
 #[repr(C)]
 #[derive(Clone, Copy)]
@@ -35,94 +44,94 @@ pub struct BounceResult {
     pub shares: SharesRecord,
 }
 
-const ZERO3: Vec3 = Vec3 {
-    x: 0.0,
-    y: 0.0,
-    z: 0.0,
+// What stands where an answer has no value.
+const NOTHING: BounceResult = BounceResult {
+    number: 0,
+    outcome: 0,
+    wi: Vec3 {
+        x: 0.0,
+        y: 0.0,
+        z: 0.0,
+    },
+    density: DensityRecord {
+        finite: 0,
+        value: 0.0,
+    },
+    shares: SharesRecord {
+        given: 0,
+        reflected: 0.0,
+        passed: 0.0,
+    },
 };
 
-const NO_DENSITY: DensityRecord = DensityRecord {
-    finite: 0,
-    value: 0.0,
-};
+impl From<Option<f64>> for DensityRecord {
+    ghost from_gives = { λ density r. r ≡ density_record density };
 
-const NO_SHARES: SharesRecord = SharesRecord {
-    given: 0,
-    reflected: 0.0,
-    passed: 0.0,
-};
-
-fn of_density(density: Option<f64>) -> DensityRecord
-    ensures { result ≡ density_record density }
-{
-    match density {
-        Some(value) => DensityRecord { finite: 1, value },
-        None => NO_DENSITY,
+    #[tactic(auto, unfolding(crate::specs::Plain::density_record))]
+    fn from(density: Option<f64>) -> Self {
+        match density {
+            Some(value) => DensityRecord { finite: 1, value },
+            None => NOTHING.density,
+        }
     }
 }
 
-fn of_shares(shares: Option<Shares>) -> SharesRecord
-    ensures { result ≡ shares_record shares }
-{
-    match shares {
-        Some(shares) => SharesRecord {
-            given: 1,
-            reflected: shares.reflected,
-            passed: shares.passed,
-        },
-        None => NO_SHARES,
+impl From<Option<Shares>> for SharesRecord {
+    ghost from_gives = { λ shares r. r ≡ shares_record shares };
+
+    #[tactic(auto, unfolding(crate::specs::Plain::shares_record))]
+    fn from(shares: Option<Shares>) -> Self {
+        match shares {
+            Some(Shares { reflected, passed }) => SharesRecord {
+                given: 1,
+                reflected,
+                passed,
+            },
+            None => NOTHING.shares,
+        }
     }
 }
 
-pub fn of_bounced(answer: Bounced) -> BounceResult
-    ensures { result ≡ bounce_result (outcome answer) }
-{
-    match answer {
-        Bounced::Refused { why, path: _ } => {
-            BounceResult {
+impl From<Bounced> for BounceResult {
+    ghost from_gives = { λ answer r. r ≡ bounce_result (outcome answer) };
+
+    #[tactic(auto, unfolding(crate::specs::Answer::outcome, crate::specs::Plain::bounce_result))]
+    fn from(answer: Bounced) -> Self {
+        match answer {
+            Bounced::Refused { why, .. } => BounceResult {
                 number: why.number(),
-                outcome: 0,
-                wi: ZERO3,
-                density: NO_DENSITY,
-                shares: NO_SHARES,
-            }
-        }
-        Bounced::Lost { shares, path: _ } => {
-            BounceResult {
-                number: 0,
-                outcome: 1,
-                wi: ZERO3,
-                density: NO_DENSITY,
-                shares: of_shares(shares),
-            }
-        }
-        Bounced::Reflected {
-            wi,
-            density,
-            shares,
-            path: _,
-        } => {
-            BounceResult {
-                number: 0,
-                outcome: 2,
+                outcome: Case::Refused as u64,
+                ..NOTHING
+            },
+            Bounced::Lost { shares, .. } => BounceResult {
+                outcome: Case::Lost as u64,
+                shares: shares.into(),
+                ..NOTHING
+            },
+            Bounced::Reflected {
                 wi,
-                density: of_density(density),
-                shares: of_shares(shares),
-            }
-        }
-        Bounced::Passed {
-            wi,
-            density,
-            shares,
-            path: _,
-        } => {
-            BounceResult {
-                number: 0,
-                outcome: 3,
+                density,
+                shares,
+                ..
+            } => BounceResult {
+                outcome: Case::Reflected as u64,
                 wi,
-                density: of_density(density),
-                shares: of_shares(shares),
-            }
+                density: density.into(),
+                shares: shares.into(),
+                ..NOTHING
+            },
+            Bounced::Passed {
+                wi,
+                density,
+                shares,
+                ..
+            } => BounceResult {
+                outcome: Case::Passed as u64,
+                wi,
+                density: density.into(),
+                shares: shares.into(),
+                ..NOTHING
+            },
         }
     }
 }

@@ -70,24 +70,15 @@ pub enum Bounced {
 
 impl Bounced {
     // The path that an answer carries.
+    #[tactic(auto, unfolding(crate::specs::Answer::outcome, crate::specs::Answer::path_of))]
     pub fn path(self) -> Path
         ensures { result ≡ path_of (outcome self) }
     {
         match self {
-            Bounced::Refused { why: _, path } => path,
-            Bounced::Lost { shares: _, path } => path,
-            Bounced::Reflected {
-                wi: _,
-                density: _,
-                shares: _,
-                path,
-            } => path,
-            Bounced::Passed {
-                wi: _,
-                density: _,
-                shares: _,
-                path,
-            } => path,
+            Bounced::Refused { path, .. }
+            | Bounced::Lost { path, .. }
+            | Bounced::Reflected { path, .. }
+            | Bounced::Passed { path, .. } => path,
         }
     }
 }
