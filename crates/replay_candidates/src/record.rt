@@ -3,104 +3,91 @@
 //   K IIII DDDDDDDDDDDDDDDD NN CC      then CC times ` IIII DDDDDDDDDDDDDDDD`
 //
 // data/README says what each is.
+ghost use Rattle.std.specs.Prelude.{◌≡◌, length};
+
+use candidates::candidate::Candidate;
 use candidates::list::ROOM;
+use candidates::owned::List;
 use std::fs::File;
 use std::io::Read;
-use text::words::part;
 use text::{digits, patterns};
 
+// What is called.
 #[derive(Clone, Copy)]
-pub enum Kind {
+pub enum Call {
     // nobody is present
     Begin,
-    Arrival,
-    Departure,
+    Arrival(Candidate),
+    Departure(u16),
 }
 
 // What a record begins with: the call, its number and how many entries follow.
 #[derive(Clone, Copy)]
 pub struct Head {
-    pub there: bool,
-    pub kind: Kind,
-    pub id: u16,
-    pub density: f64,
+    pub call: Call,
     pub number: u64,
     pub entries: u64,
 }
 
-fn kind_of(b: u8) -> Kind {
-    match b {
-        b'a' => Kind::Arrival,
-        b'd' => Kind::Departure,
-        _ => Kind::Begin,
+// Sixteen digits, 0 where they are none.
+fn bits_of(t: &[u8]) -> u64 {
+    digits::hex16(t).bits
+}
+
+// An id of four digits, a blank, and a density of sixteen.
+fn candidate_of(t: &[u8]) -> Candidate
+    requires { length t.now ≡ 21 }
+{
+    let mut id = [b'0'; 16];
+    id[12..].copy_from_slice(&t[..4]);
+    Candidate {
+        id: u16::try_from(bits_of(&id)).unwrap_or(0),
+        density: patterns::of_bits(bits_of(&t[5..])),
     }
 }
 
-// The value of four hexadecimal digits, as the last of sixteen.
-fn id_of(a: u8, b: u8, c: u8, d: u8) -> u16 {
-    let mut t = [b'0'; 16];
-    t[12] = a;
-    t[13] = b;
-    t[14] = c;
-    t[15] = d;
-    let read = digits::hex16(&t);
-    (read.bits % 65536) as u16
-}
-
-fn density_of(t: &[u8]) -> f64 {
-    let read = digits::hex16(t);
-    patterns::of_bits(read.bits)
-}
-
-// Fills the bytes from the file; whether it had as many. Where it ends before, or a read fails, the others stay 0, which
-// is no digit.
-fn fill(file: &mut File, bytes: &mut [u8]) -> bool {
-    file.read_exact(bytes).is_ok()
+fn call_of(kind: u8, c: Candidate) -> Call {
+    match kind {
+        b'a' => Call::Arrival(c),
+        b'd' => Call::Departure(c.id),
+        _ => Call::Begin,
+    }
 }
 
 // The head of the next record, if there is one.
-pub fn read_head(file: &mut File) -> Head {
+pub fn read_head(file: &mut File) -> Option<Head> {
     let mut t = [0u8; 29];
-    let there = fill(file, &mut t);
-    Head {
-        there,
-        kind: kind_of(t[0]),
-        id: id_of(t[2], t[3], t[4], t[5]),
-        density: density_of(part(&t, 7, 23)),
-        number: digits::decimal(part(&t, 24, 26)),
-        entries: digits::decimal(part(&t, 27, 29)),
-    }
+    file.read_exact(&mut t).ok()?;
+    Some(Head {
+        call: call_of(t[0], candidate_of(&t[2..23])),
+        number: digits::decimal(&t[24..26]),
+        entries: digits::decimal(&t[27..29]),
+    })
 }
 
 // Reads past the end of a line.
 pub fn line_end(file: &mut File) {
     let mut text = [0u8; 1];
-    fill(file, &mut text);
+    let _ = file.read_exact(&mut text);
 }
 
-// Reads an entry, and whether it is this one.
-fn same_entry(file: &mut File, id: u16, density: f64) -> bool {
+// Reads an entry. Where the file ends before, what is missing is 0, which is no digit.
+fn read_entry(file: &mut File) -> Candidate {
     let mut t = [0u8; 22];
-    fill(file, &mut t);
-    let read = digits::hex16(part(&t, 6, 22));
-    (id_of(t[1], t[2], t[3], t[4]) == id) & (read.bits == patterns::bits(density))
+    let _ = file.read_exact(&mut t);
+    candidate_of(&t[1..])
 }
 
-// Reads the entry of a place, where there is one. Past the places of a list there is none.
-fn same_at(file: &mut File, ids: &[u16; ROOM], densities: &[f64; ROOM], i: usize) -> bool {
-    if i < ROOM {
-        return same_entry(file, ids[i], densities[i]);
-    }
-    false
-}
-
-// Whether the next `n` entries are the first of the list.
-pub fn same_entries(file: &mut File, n: u64, ids: &[u16; ROOM], densities: &[f64; ROOM]) -> bool {
-    let mut same = true;
-    let mut i: usize = 0;
-    while (i as u64) < n {
-        same = same_at(file, ids, densities, i) & same;
-        i += 1;
+// Whether the next `n` entries are the candidates of the list, from the top. Of more than a list has places for, no
+// more are read.
+pub fn same_entries(file: &mut File, n: u64, list: &List) -> bool {
+    let mut same = n == list.count() as u64;
+    let mut present = list.ids().iter().zip(list.densities());
+    for _ in 0..n.min(ROOM as u64) {
+        let entry = read_entry(file);
+        same &= present.next().is_some_and(|(id, density)| {
+            *id == entry.id && patterns::bits(*density) == patterns::bits(entry.density)
+        });
     }
     same
 }
