@@ -83,7 +83,7 @@ impl DenseSpectrum {
 
 // Where a wavelength lies among the grid points, which is found once for spectra of one spacing that are
 // read at one wavelength: at none if it was ended, at the wavelength of an entry, or between the entry `upper`
-// and the one before, which lies `weight` below the wavelength.
+// and the one before, from which it lies `weight` steps.
 #[derive(Clone, Copy)]
 pub enum GridPoint {
     Ended,
