@@ -1,23 +1,21 @@
 // Angles.
-use crate::words;
-use crate::words::{same_bool, same_float};
+use crate::words::{Input, Words};
 use numbers::spherical_utils;
 use std::fs::File;
 
 // Whether the answer of the function `number` is the record's.
-pub fn replay(file: &mut File, number: u64, w: &[f64; 30]) -> bool {
-    let a = words::vec3(w, 0);
-    let b = words::vec3(w, 3);
+pub fn replay(file: &mut File, number: u64, w: &Input) -> bool {
+    let a = w.vec3(0);
     match number {
-        601 => same_bool(file, spherical_utils::same_hemisphere(a, b)),
-        602 => same_float(file, spherical_utils::cos_phi(a)),
-        603 => same_float(file, spherical_utils::sin_phi(a)),
-        604 => same_float(file, spherical_utils::cos_theta(a)),
-        605 => same_float(file, spherical_utils::sin_theta(a)),
-        606 => same_float(file, spherical_utils::tan_theta(a)),
-        607 => same_float(file, spherical_utils::cos2_theta(a)),
-        608 => same_float(file, spherical_utils::sin2_theta(a)),
-        609 => same_float(file, spherical_utils::tan2_theta(a)),
+        601 => spherical_utils::same_hemisphere(a, w.vec3(3)).same(file),
+        602 => spherical_utils::cos_phi(a).same(file),
+        603 => spherical_utils::sin_phi(a).same(file),
+        604 => spherical_utils::cos_theta(a).same(file),
+        605 => spherical_utils::sin_theta(a).same(file),
+        606 => spherical_utils::tan_theta(a).same(file),
+        607 => spherical_utils::cos2_theta(a).same(file),
+        608 => spherical_utils::sin2_theta(a).same(file),
+        609 => spherical_utils::tan2_theta(a).same(file),
         _ => false,
     }
 }

@@ -1,22 +1,20 @@
 // Bases.
-use crate::words;
-use crate::words::{same_basis, same_vec3};
+use crate::words::{Input, Words};
 use numbers::onb::Onb;
 use std::fs::File;
 
 // Whether the answer of the function `number` is the record's.
-pub fn replay(file: &mut File, number: u64, w: &[f64; 30]) -> bool {
-    let a = words::vec3(w, 0);
+pub fn replay(file: &mut File, number: u64, w: &Input) -> bool {
     let uvw = Onb {
-        u: a,
-        v: words::vec3(w, 3),
-        w: words::vec3(w, 6),
+        u: w.vec3(0),
+        v: w.vec3(3),
+        w: w.vec3(6),
     };
-    let v = words::vec3(w, 9);
+    let v = w.vec3(9);
     match number {
-        501 => same_basis(file, Onb::new(a)),
-        502 => same_vec3(file, Onb::to_world(uvw, v)),
-        503 => same_vec3(file, Onb::to_local(uvw, v)),
+        501 => Onb::new(uvw.u).same(file),
+        502 => uvw.to_world(v).same(file),
+        503 => uvw.to_local(v).same(file),
         _ => false,
     }
 }

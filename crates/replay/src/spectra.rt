@@ -1,19 +1,19 @@
 // Spectra. The record 700 has the entries for those after it.
-use crate::words::{same_bool, same_float};
+use crate::words::{Input, Words};
 use numbers::dense_spectrum;
 use numbers::dense_spectrum::DenseSpectrum;
 use std::fs::File;
 
 // Whether the answer of the function `number` is the record's.
-pub fn replay(file: &mut File, number: u64, w: &[f64; 30], values: &[f64]) -> bool {
-    let x = w[0];
+pub fn replay(file: &mut File, number: u64, w: &Input, values: &[f64]) -> bool {
+    let x = w.float(0);
     match number {
-        701 => same_float(file, DenseSpectrum::sample_one(values, x)),
-        702 => same_bool(file, DenseSpectrum::is_constant(values)),
-        703 => same_bool(file, dense_spectrum::all_within(values, x, w[1])),
-        704 => same_bool(file, dense_spectrum::all_finite(values)),
-        705 => same_bool(file, dense_spectrum::is_wavelength(x)),
-        706 => same_bool(file, dense_spectrum::is_lookup_wavelength(x)),
+        701 => DenseSpectrum::sample_one(values, x).same(file),
+        702 => DenseSpectrum::is_constant(values).same(file),
+        703 => dense_spectrum::all_within(values, x, w.float(1)).same(file),
+        704 => dense_spectrum::all_finite(values).same(file),
+        705 => dense_spectrum::is_wavelength(x).same(file),
+        706 => dense_spectrum::is_lookup_wavelength(x).same(file),
         _ => false,
     }
 }

@@ -1,129 +1,266 @@
 // Words in, as they come in a record, and words out, each held to the record's next.
+ghost use Rattle.std.specs.Prelude.{◌+◌, ◌<◌, ◌≤◌};
+
 use crate::record;
-use numbers::checked::{BoolAnswer, FloatAnswer, Vec3Answer};
 use numbers::complex::Complex;
 use numbers::onb::Onb;
+use numbers::refusal::Refusal;
 use numbers::vec2::Vec2;
 use numbers::vec3::Vec3;
+use optics::bxdf::{Refracted, Sampled};
 use optics::color::Color;
-use optics::microfacet::{Kind, Surface};
-use rulvimba::records;
-use rulvimba::records::DirectionResult;
+use optics::microfacet::{Ggx, Kind, Surface};
+use path::plain::{BounceResult, DensityRecord, SharesRecord};
+use path::records::Path;
 use std::fs::File;
 use text::patterns;
 
 // ---- in
-pub fn is_true(x: f64) -> bool {
-    x != 0.0
-}
+// No call takes more words.
+pub const INS: usize = 30;
 
-pub fn kind(glass: f64) -> Kind {
-    if is_true(glass) {
-        return Kind::Glass;
+// The words that go into a call.
+#[derive(Clone, Copy)]
+pub struct Input(pub [f64; INS]);
+
+// What stands in the words from the i-th on.
+impl Input {
+    pub fn float(&self, i: usize) -> f64
+        requires { i < 30 }
+    {
+        self.0[i]
     }
-    Kind::Metal
-}
 
-// The surface of the first three words: whether it is glass, and its roughness.
-pub fn surface(w: &[f64; 30]) -> Surface {
-    let kind = kind(w[0]);
-    Surface {
-        kind,
-        roughness: vec2(w, 1),
+    pub fn is_true(&self, i: usize) -> bool
+        requires { i < 30 }
+    {
+        self.float(i) != 0.0
     }
-}
 
-// The word at `i`, and 0 past the last.
-fn at(w: &[f64; 30], i: usize) -> f64 {
-    if i < 30 {
-        return w[i];
+    // Whether it is glass.
+    pub fn kind(&self, i: usize) -> Kind
+        requires { i < 30 }
+    {
+        if self.is_true(i) {
+            Kind::Glass
+        } else {
+            Kind::Metal
+        }
     }
-    0.0
-}
 
-// The words from a place on, which is a u32 so that no sum with it wraps.
-pub fn vec2(w: &[f64; 30], from: u32) -> Vec2 {
-    let i = from as usize;
-    Vec2 {
-        x: at(w, i),
-        y: at(w, i + 1),
+    pub fn vec2(&self, i: usize) -> Vec2
+        requires { i + 2 ≤ 30 }
+    {
+        Vec2::new(self.float(i), self.float(i + 1))
     }
-}
 
-pub fn vec3(w: &[f64; 30], from: u32) -> Vec3 {
-    let i = from as usize;
-    Vec3 {
-        x: at(w, i),
-        y: at(w, i + 1),
-        z: at(w, i + 2),
+    pub fn vec3(&self, i: usize) -> Vec3
+        requires { i + 3 ≤ 30 }
+    {
+        self.vec2(i).extend(self.float(i + 2))
     }
-}
 
-pub fn color(w: &[f64; 30], from: u32) -> Color {
-    let i = from as usize;
-    Color {
-        s0: at(w, i),
-        s1: at(w, i + 1),
-        s2: at(w, i + 2),
-        s3: at(w, i + 3),
+    pub fn color(&self, i: usize) -> Color
+        requires { i + 4 ≤ 30 }
+    {
+        Color {
+            s0: self.float(i),
+            s1: self.float(i + 1),
+            s2: self.float(i + 2),
+            s3: self.float(i + 3),
+        }
     }
-}
 
-// ---- out: whether the record's next words are these. Each is read, whatever those before it were.
-pub fn same_number(file: &mut File, n: u64) -> bool {
-    record::word(file) == n
-}
+    pub fn facets(&self, i: usize) -> Ggx
+        requires { i + 2 ≤ 30 }
+    {
+        Ggx {
+            roughness: self.vec2(i),
+        }
+    }
 
-pub fn same_bool(file: &mut File, b: bool) -> bool {
-    same_number(file, b as u64)
-}
-
-pub fn same_float(file: &mut File, x: f64) -> bool {
-    same_number(file, patterns::bits(x))
-}
-
-pub fn same_vec2(file: &mut File, v: Vec2) -> bool {
-    same_float(file, v.x) & same_float(file, v.y)
-}
-
-pub fn same_vec3(file: &mut File, v: Vec3) -> bool {
-    same_float(file, v.x) & same_float(file, v.y) & same_float(file, v.z)
-}
-
-pub fn same_complex(file: &mut File, z: Complex) -> bool {
-    same_float(file, z.Re) & same_float(file, z.Im)
-}
-
-pub fn same_basis(file: &mut File, b: Onb) -> bool {
-    same_vec3(file, b.u) & same_vec3(file, b.v) & same_vec3(file, b.w)
-}
-
-pub fn same_color(file: &mut File, a: Color) -> bool {
-    same_float(file, a.s0)
-        & same_float(file, a.s1)
-        & same_float(file, a.s2)
-        & same_float(file, a.s3)
-}
-
-// ---- answers that may be a refusal: document 01's number, 0 where a value is given, and the value
-pub fn same_float_answer(file: &mut File, answer: FloatAnswer) -> bool {
-    let r = records::of_float(answer);
-    same_number(file, r.number) & same_float(file, r.value)
-}
-
-pub fn same_vec3_answer(file: &mut File, answer: Vec3Answer) -> bool {
-    let r = records::of_vec3(answer);
-    same_number(file, r.number) & same_vec3(file, r.value)
-}
-
-pub fn same_bool_answer(file: &mut File, answer: BoolAnswer) -> bool {
-    match answer {
-        BoolAnswer::Refused(why) => same_number(file, why.number()) & same_bool(file, false),
-        BoolAnswer::Given(b) => same_number(file, 0) & same_bool(file, b),
+    // The surface that a call begins with: its kind, and its roughness.
+    pub fn surface(&self) -> Surface {
+        Surface {
+            kind: self.kind(0),
+            roughness: self.vec2(1),
+        }
     }
 }
 
-// A mirror's or a bend's.
-pub fn same_direction(file: &mut File, r: DirectionResult) -> bool {
-    same_number(file, r.number) & same_number(file, r.outcome) & same_vec3(file, r.direction)
+// ---- out
+// What a call answers, as words.
+pub trait Words {
+    // Whether the record's next words are these. Each is read, whatever those before it were.
+    fn same(self, file: &mut File) -> bool;
+}
+
+// What a call answers unless it is refused: in its place stand as many zeros as it has words.
+pub trait Value: Words {
+    const COUNT: u64;
+}
+
+impl Words for u64 {
+    fn same(self, file: &mut File) -> bool {
+        record::word(file) == self
+    }
+}
+
+impl Words for bool {
+    fn same(self, file: &mut File) -> bool {
+        (self as u64).same(file)
+    }
+}
+
+impl Words for f64 {
+    fn same(self, file: &mut File) -> bool {
+        patterns::bits(self).same(file)
+    }
+}
+
+impl Words for Vec2 {
+    fn same(self, file: &mut File) -> bool {
+        self.x.same(file) & self.y.same(file)
+    }
+}
+
+impl Words for Vec3 {
+    fn same(self, file: &mut File) -> bool {
+        self.x.same(file) & self.y.same(file) & self.z.same(file)
+    }
+}
+
+impl Words for Complex {
+    fn same(self, file: &mut File) -> bool {
+        self.Re.same(file) & self.Im.same(file)
+    }
+}
+
+impl Words for Onb {
+    fn same(self, file: &mut File) -> bool {
+        self.u.same(file) & self.v.same(file) & self.w.same(file)
+    }
+}
+
+impl Words for Color {
+    fn same(self, file: &mut File) -> bool {
+        self.s0.same(file) & self.s1.same(file) & self.s2.same(file) & self.s3.same(file)
+    }
+}
+
+// A surface that was made: whether it is glass, and its roughness.
+impl Words for Surface {
+    fn same(self, file: &mut File) -> bool {
+        u64::from(self.kind).same(file) & self.roughness.same(file)
+    }
+}
+
+// Whether the record's next `n` words are zeros.
+fn are_zeros(file: &mut File, n: u64) -> bool {
+    let mut zeros = true;
+    for _ in 0..n {
+        zeros &= record::word(file) == 0;
+    }
+    zeros
+}
+
+// Document 01's number, and zeros where the call is refused; 0 and the value where it isn't.
+impl<T: Value> Words for Result<T, Refusal> {
+    fn same(self, file: &mut File) -> bool {
+        match self {
+            Ok(value) => 0u64.same(file) & value.same(file),
+            Err(why) => why.number().same(file) & are_zeros(file, T::COUNT),
+        }
+    }
+}
+
+// A mirror's or a bend's answer: 1 and a direction, 2 for none, or 3 for total reflection.
+impl Words for Refracted {
+    fn same(self, file: &mut File) -> bool {
+        match self {
+            Refracted::Direction(wi) => 1u64.same(file) & wi.same(file),
+            Refracted::None => 2u64.same(file) & are_zeros(file, 3),
+            Refracted::Total => 3u64.same(file) & are_zeros(file, 3),
+        }
+    }
+}
+
+impl Words for Option<Vec3> {
+    fn same(self, file: &mut File) -> bool {
+        self.map_or(Refracted::None, |wi| Refracted::Direction(wi))
+            .same(file)
+    }
+}
+
+// A sampler's answer: the same cases, whether it is a reflection, and the direction.
+impl Words for Sampled {
+    fn same(self, file: &mut File) -> bool {
+        match self {
+            Sampled::Direction { wi, reflection } => {
+                1u64.same(file) & reflection.same(file) & wi.same(file)
+            }
+            Sampled::None => 2u64.same(file) & are_zeros(file, 4),
+            Sampled::Total => 3u64.same(file) & are_zeros(file, 4),
+        }
+    }
+}
+
+impl Words for DensityRecord {
+    fn same(self, file: &mut File) -> bool {
+        self.finite.same(file) & self.value.same(file)
+    }
+}
+
+impl Words for SharesRecord {
+    fn same(self, file: &mut File) -> bool {
+        self.given.same(file) & self.reflected.same(file) & self.passed.same(file)
+    }
+}
+
+impl Words for BounceResult {
+    fn same(self, file: &mut File) -> bool {
+        self.number.same(file)
+            & self.outcome.same(file)
+            & self.wi.same(file)
+            & self.density.same(file)
+            & self.shares.same(file)
+    }
+}
+
+impl Words for Path {
+    fn same(self, file: &mut File) -> bool {
+        self.lambda.same(file) & self.power.same(file)
+    }
+}
+
+impl Value for bool {
+    const COUNT: u64 = 1;
+}
+
+impl Value for f64 {
+    const COUNT: u64 = 1;
+}
+
+impl Value for Vec3 {
+    const COUNT: u64 = 3;
+}
+
+impl Value for Onb {
+    const COUNT: u64 = 9;
+}
+
+impl Value for Color {
+    const COUNT: u64 = 4;
+}
+
+impl Value for Surface {
+    const COUNT: u64 = 3;
+}
+
+impl Value for Refracted {
+    const COUNT: u64 = 4;
+}
+
+impl Value for Option<Vec3> {
+    const COUNT: u64 = 4;
 }
