@@ -7,9 +7,8 @@ ghost use Rattle.rulvimba.specs.Surfaces.{surface_with};
 
 use path::plain::BounceResult;
 use path::records::{Bounce, Path};
-use path::{plain, thin};
-use rulvimba::surfaces;
-use rulvimba::surfaces::SurfaceRecord;
+use path::thin;
+use rulvimba::surfaces::{SurfaceRecord, lent};
 
 #[unsafe(no_mangle)]
 pub extern "C" fn path_bounce_on(
@@ -22,7 +21,5 @@ pub extern "C" fn path_bounce_on(
 ) -> BounceResult
     ensures { (result ≡ bounce_result (bounce path.old (surface_with surface eta.now k.now outer.now) b)) × (path.new ≡ path_of (bounce path.old (surface_with surface eta.now k.now outer.now) b)) }
 {
-    let made = surfaces::of_record(surface);
-    let answer = thin::bounce_on(path, made, eta, k, outer, b);
-    plain::of_bounced(answer)
+    BounceResult::from(thin::bounce_on(path, &lent(surface, eta, k, outer), b))
 }

@@ -7,29 +7,27 @@ ghost use Rattle.rulvimba.specs.Results.{direction_result};
 ghost use Rattle.rulvimba.specs.Surfaces.{surface_of};
 ghost use Rattle.compare_path.specs.Results.{scattered_result};
 
-use crate::results;
 use crate::results::ScatteredResult;
 use numbers::vec2::Vec2;
 use numbers::vec3::Vec3;
 use optics::bxdf;
 use optics::bxdf::{conductor, dielectric};
-use optics::microfacet::Ggx;
+use optics::microfacet::{Ggx, Surface};
 use rulvimba::records::DirectionResult;
-use rulvimba::surfaces;
 use rulvimba::surfaces::SurfaceRecord;
 
 #[unsafe(no_mangle)]
 pub extern "C" fn optics_reflect(wo: Vec3, n: Vec3) -> DirectionResult
     ensures { result ≡ direction_result (given (reflect wo n)) }
 {
-    results::of_reflected(bxdf::reflect(wo, n))
+    DirectionResult::from(Ok(bxdf::reflect(wo, n)))
 }
 
 #[unsafe(no_mangle)]
 pub extern "C" fn optics_refract(eta: f64, wo: Vec3, n: Vec3) -> DirectionResult
     ensures { result ≡ direction_result (given (refract eta wo n)) }
 {
-    results::of_refracted(bxdf::refract(eta, wo, n))
+    DirectionResult::from(Ok(bxdf::refract(eta, wo, n)))
 }
 
 #[unsafe(no_mangle)]
@@ -43,7 +41,7 @@ pub extern "C" fn optics_conductor_sample(
     ensures { result ≡ scattered_result (conductor_sample a wo disk c s) }
 {
     let mfd = Ggx { roughness: a };
-    results::of_sampled(conductor::sample(wo, mfd, disk, c, s))
+    ScatteredResult::from(conductor::sample(wo, mfd, disk, c, s))
 }
 
 #[unsafe(no_mangle)]
@@ -60,7 +58,7 @@ pub extern "C" fn optics_dielectric_sample(
     ensures { result ≡ scattered_result (dielectric_sample a eta k wo u disk c s) }
 {
     let mfd = Ggx { roughness: a };
-    results::of_sampled(dielectric::sample(wo, mfd, eta, k, u, disk, c, s))
+    ScatteredResult::from(dielectric::sample(wo, mfd, eta, k, u, disk, c, s))
 }
 
 #[unsafe(no_mangle)]
@@ -97,9 +95,6 @@ pub extern "C" fn optics_pdf(
 ) -> f64
     ensures { result ≡ pdf_of (surface_of surface).kind (surface_of surface).roughness eta k reflection wo wi }
 {
-    let made = surfaces::of_record(surface);
-    let kind = made.kind;
-    let roughness = made.roughness;
-    let mfd = Ggx { roughness };
-    bxdf::pdf(kind, mfd, wo, wi, reflection, eta, k)
+    let Surface { kind, roughness } = Surface::from(surface);
+    bxdf::pdf(kind, Ggx { roughness }, wo, wi, reflection, eta, k)
 }

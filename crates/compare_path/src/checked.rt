@@ -9,96 +9,94 @@ ghost use Rattle.rulvimba.specs.Results.{float_result, vec3_result};
 ghost use Rattle.rulvimba.specs.Surfaces.{surface_with};
 ghost use Rattle.compare_path.specs.Results.{bool_result, onb_result};
 
-use crate::results;
 use crate::results::{BoolResult, OnbResult};
 use numbers::checked;
 use numbers::vec3::Vec3;
 use rulvimba::records::{FloatResult, Vec3Result};
-use rulvimba::surfaces::SurfaceRecord;
-use rulvimba::{records, surfaces};
+use rulvimba::surfaces::{SurfaceRecord, lent};
 
 #[unsafe(no_mangle)]
 pub extern "C" fn numbers_checked_onb(normal: Vec3) -> OnbResult
     ensures { result ≡ onb_result (of_direction basis normal) }
 {
-    results::of_onb(checked::onb(normal))
+    OnbResult::from(checked::onb(normal))
 }
 
 #[unsafe(no_mangle)]
 pub extern "C" fn numbers_checked_to_local(v: Vec3, normal: Vec3) -> Vec3Result
     ensures { result ≡ vec3_result (change_to_local v normal) }
 {
-    records::of_vec3(checked::to_local(v, normal))
+    Vec3Result::from(checked::to_local(v, normal))
 }
 
 #[unsafe(no_mangle)]
 pub extern "C" fn numbers_checked_to_world(v: Vec3, normal: Vec3) -> Vec3Result
     ensures { result ≡ vec3_result (change_to_world v normal) }
 {
-    records::of_vec3(checked::to_world(v, normal))
+    Vec3Result::from(checked::to_world(v, normal))
 }
 
 #[unsafe(no_mangle)]
 pub extern "C" fn numbers_checked_same_hemisphere(v: Vec3, u: Vec3) -> BoolResult
     ensures { result ≡ bool_result (hemisphere v u) }
 {
-    results::of_bool(checked::same_hemisphere(v, u))
+    BoolResult::from(checked::same_hemisphere(v, u))
 }
 
 #[unsafe(no_mangle)]
 pub extern "C" fn numbers_checked_cos_phi(w: Vec3) -> FloatResult
     ensures { result ≡ float_result (of_direction cos_phi w) }
 {
-    records::of_float(checked::cos_phi(w))
+    FloatResult::from(checked::cos_phi(w))
 }
 
 #[unsafe(no_mangle)]
 pub extern "C" fn numbers_checked_sin_phi(w: Vec3) -> FloatResult
     ensures { result ≡ float_result (of_direction sin_phi w) }
 {
-    records::of_float(checked::sin_phi(w))
+    FloatResult::from(checked::sin_phi(w))
 }
 
 #[unsafe(no_mangle)]
 pub extern "C" fn numbers_checked_cos_theta(w: Vec3) -> FloatResult
     ensures { result ≡ float_result (of_direction cos_theta w) }
 {
-    records::of_float(checked::cos_theta(w))
+    FloatResult::from(checked::cos_theta(w))
 }
 
 #[unsafe(no_mangle)]
 pub extern "C" fn numbers_checked_sin_theta(w: Vec3) -> FloatResult
     ensures { result ≡ float_result (of_direction sin_theta w) }
 {
-    records::of_float(checked::sin_theta(w))
+    FloatResult::from(checked::sin_theta(w))
 }
 
 #[unsafe(no_mangle)]
 pub extern "C" fn numbers_checked_tan_theta(w: Vec3) -> FloatResult
     ensures { result ≡ float_result (of_direction tan_theta w) }
 {
-    records::of_float(checked::tan_theta(w))
+    FloatResult::from(checked::tan_theta(w))
 }
 
 #[unsafe(no_mangle)]
 pub extern "C" fn numbers_checked_cos2_theta(w: Vec3) -> FloatResult
     ensures { result ≡ float_result (of_direction cos2_theta w) }
 {
-    records::of_float(checked::cos2_theta(w))
+    FloatResult::from(checked::cos2_theta(w))
 }
 
 #[unsafe(no_mangle)]
 pub extern "C" fn numbers_checked_sin2_theta(w: Vec3) -> FloatResult
     ensures { result ≡ float_result (of_direction sin2_theta w) }
 {
-    records::of_float(checked::sin2_theta(w))
+    FloatResult::from(checked::sin2_theta(w))
 }
 
 #[unsafe(no_mangle)]
 pub extern "C" fn numbers_checked_tan2_theta(w: Vec3) -> FloatResult
     ensures { result ≡ float_result (of_direction tan2_theta w) }
 {
-    records::of_float(checked::tan2_theta(w))
+    FloatResult::from(checked::tan2_theta(w))
 }
 
 #[unsafe(no_mangle)]
@@ -110,7 +108,7 @@ pub extern "C" fn optics_checked_is_delta(
 ) -> BoolResult
     ensures { result ≡ bool_result (Counter.is_delta (surface_with surface eta.now k.now outer.now)) }
 {
-    results::of_bool(counter::is_delta(surfaces::of_record(surface), eta, k, outer))
+    BoolResult::from(counter::is_delta(&lent(surface, eta, k, outer)))
 }
 
 #[unsafe(no_mangle)]
@@ -124,7 +122,7 @@ pub extern "C" fn optics_checked_chi_pass(
 ) -> BoolResult
     ensures { result ≡ bool_result (Counter.chi_pass (surface_with surface eta.now k.now outer.now) wo wh) }
 {
-    results::of_bool(counter::chi_pass(surfaces::of_record(surface), eta, k, outer, wo, wh))
+    BoolResult::from(counter::chi_pass(&lent(surface, eta, k, outer), wo, wh))
 }
 
 #[unsafe(no_mangle)]
@@ -139,13 +137,5 @@ pub extern "C" fn optics_checked_disney_diffuse(
 ) -> FloatResult
     ensures { result ≡ float_result (Counter.disney_diffuse (surface_with surface eta.now k.now outer.now) wo wi wh) }
 {
-    records::of_float(counter::disney_diffuse(
-        surfaces::of_record(surface),
-        eta,
-        k,
-        outer,
-        wo,
-        wi,
-        wh,
-    ))
+    FloatResult::from(counter::disney_diffuse(&lent(surface, eta, k, outer), wo, wi, wh))
 }

@@ -9,14 +9,23 @@ use numbers::vec2::Vec2;
 use numbers::vec3::Vec3;
 use optics::color::Color;
 use optics::microfacet;
-use optics::microfacet::{Ggx, Kind, Known};
+use optics::microfacet::{Ggx, Kind, Known, Spectra};
+
+// A number that is no kind's reads as glass, as the definition has it.
+#[tactic(auto, unfolding(optics::specs::Surface::kind_read, optics::specs::Surface::kind_of))]
+fn kind_of(code: u64) -> Kind
+    ensures { result ≡ kind_of code }
+{
+    Kind::try_from(code).unwrap_or(Kind::Glass)
+}
 
 // Whether eta counts as constant, on glass.
+#[tactic(auto, unfolding(optics::specs::Surface::constant_eta, optics::specs::Known::known_on_glass))]
 #[unsafe(no_mangle)]
 pub extern "C" fn optics_constant_eta(eta: &[f64], outer: &[f64]) -> bool
     ensures { result ≡ constant_eta eta.now (medium outer.now) }
 {
-    let known = Known::on_glass(eta, outer);
+    let known = Known::on_glass(&Spectra { eta, k: &[], outer });
     known.eta_constant
 }
 
@@ -31,7 +40,7 @@ pub extern "C" fn optics_eta_at(eta: &[f64], wl: f64) -> f64
 pub extern "C" fn optics_k_at(eta: &[f64], k: &[f64], wl: f64) -> f64
     ensures { result ≡ k_at eta.now k.now wl }
 {
-    microfacet::k_at(eta, k, wl)
+    microfacet::k_at(&Spectra { eta, k, outer: &[] }, wl)
 }
 
 // The index at one wavelength, on a kind by its code.
@@ -39,8 +48,7 @@ pub extern "C" fn optics_k_at(eta: &[f64], k: &[f64], wl: f64) -> f64
 pub extern "C" fn optics_index_on(kind: u64, eta: &[f64], k: &[f64], outer: &[f64], wl: f64) -> f64
     ensures { result ≡ index_on (kind_of kind) eta.now (medium outer.now) wl }
 {
-    let at = microfacet::optical_constants(Kind::of_code(kind), eta, k, outer, wl);
-    at.eta
+    microfacet::optical_constants(kind_of(kind), &Spectra { eta, k, outer }, wl).eta
 }
 
 #[unsafe(no_mangle)]
@@ -162,5 +170,5 @@ pub extern "C" fn optics_f(
 ) -> Color
     ensures { result ≡ f (kind_of kind) eta.now k.now (medium outer.now) wo wh lambda }
 {
-    microfacet::f(Kind::of_code(kind), eta, k, outer, wo, wh, lambda)
+    microfacet::f(kind_of(kind), &Spectra { eta, k, outer }, wo, wh, lambda)
 }

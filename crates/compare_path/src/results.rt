@@ -1,18 +1,15 @@
-// Answers that librulvimba has none of, laid out for C as it lays out its own.
+// Answers that librulvimba has none of, laid out for C as it lays out its own. By hand: a record for each type of
+// value, since no generic struct crosses to C.
 ghost use Rattle.std.specs.Prelude.{◌≡◌};
-ghost use Rattle.numbers.specs.Checked.{bool_answer, onb_answer};
-ghost use Rattle.numbers.specs.Refusal.{given};
-ghost use Rattle.optics.specs.Bxdf.{reflected, refracted, sampled};
-ghost use Rattle.rulvimba.specs.Results.{direction_result};
+ghost use Rattle.numbers.specs.Refusal.{answer};
+ghost use Rattle.optics.specs.Bxdf.{sampled};
 ghost use Rattle.compare_path.specs.Results.{bool_result, onb_result, scattered_result};
 
-use counter::{ReflectAnswer, RefractAnswer};
-use numbers::checked::{BoolAnswer, OnbAnswer};
 use numbers::onb::Onb;
+use numbers::refusal::Refusal;
 use numbers::vec3::Vec3;
-use optics::bxdf::{Reflected, Refracted, Sampled};
-use rulvimba::records;
-use rulvimba::records::DirectionResult;
+use optics::bxdf::Sampled;
+use rulvimba::records::{Case, number_and};
 
 #[repr(C)]
 #[derive(Clone, Copy)]
@@ -37,88 +34,46 @@ pub struct ScatteredResult {
     pub direction: Vec3,
 }
 
-const ZERO3: Vec3 = Vec3 {
-    x: 0.0,
-    y: 0.0,
-    z: 0.0,
+const NO_ONB: Onb = Onb {
+    u: Vec3::ZERO,
+    v: Vec3::ZERO,
+    w: Vec3::ZERO,
 };
 
-pub fn of_bool(answer: BoolAnswer) -> BoolResult
-    ensures { result ≡ bool_result (bool_answer answer) }
-{
-    match answer {
-        BoolAnswer::Refused(why) => {
-            BoolResult {
-                number: why.number(),
-                value: false,
-            }
-        }
-        BoolAnswer::Given(x) => BoolResult {
-            number: 0,
-            value: x,
-        },
+impl From<Result<bool, Refusal>> for BoolResult {
+    ghost from_gives = { λ a r. r ≡ bool_result (answer a) };
+
+    #[tactic(auto, unfolding(crate::specs::Results::bool_result))]
+    fn from(a: Result<bool, Refusal>) -> BoolResult {
+        let (number, value) = number_and(a, false);
+        BoolResult { number, value }
     }
 }
 
-pub fn of_onb(answer: OnbAnswer) -> OnbResult
-    ensures { result ≡ onb_result (onb_answer answer) }
-{
-    match answer {
-        OnbAnswer::Refused(why) => {
-            OnbResult {
-                number: why.number(),
-                value: Onb {
-                    u: ZERO3,
-                    v: ZERO3,
-                    w: ZERO3,
-                },
-            }
-        }
-        OnbAnswer::Given(x) => OnbResult {
-            number: 0,
-            value: x,
-        },
+impl From<Result<Onb, Refusal>> for OnbResult {
+    ghost from_gives = { λ a r. r ≡ onb_result (answer a) };
+
+    #[tactic(auto, unfolding(crate::specs::Results::onb_result))]
+    fn from(a: Result<Onb, Refusal>) -> OnbResult {
+        let (number, value) = number_and(a, NO_ONB);
+        OnbResult { number, value }
     }
 }
 
-// A mirror and a bend without checks are laid out as those that are not refused.
-pub fn of_reflected(answer: Reflected) -> DirectionResult
-    ensures { result ≡ direction_result (given (reflected answer)) }
-{
-    match answer {
-        Reflected::Direction(wi) => records::of_reflect(ReflectAnswer::Direction(wi)),
-        Reflected::None => records::of_reflect(ReflectAnswer::None),
-    }
-}
+impl From<Sampled> for ScatteredResult {
+    ghost from_gives = { λ s r. r ≡ scattered_result (sampled s) };
 
-pub fn of_refracted(answer: Refracted) -> DirectionResult
-    ensures { result ≡ direction_result (given (refracted answer)) }
-{
-    match answer {
-        Refracted::Direction(wi) => records::of_refract(RefractAnswer::Direction(wi)),
-        Refracted::None => records::of_refract(RefractAnswer::None),
-        Refracted::Total => records::of_refract(RefractAnswer::Total),
-    }
-}
-
-pub fn of_sampled(answer: Sampled) -> ScatteredResult
-    ensures { result ≡ scattered_result (sampled answer) }
-{
-    match answer {
-        Sampled::Direction { wi, reflection } => ScatteredResult {
-            outcome: 1,
+    #[tactic(auto, unfolding(crate::specs::Results::scattered_result, optics::specs::Bxdf::sampled))]
+    fn from(s: Sampled) -> ScatteredResult {
+        let (case, reflection, direction) = match s {
+            Sampled::Direction { wi, reflection } => (Case::Direction, reflection, wi),
+            Sampled::None => (Case::None, false, Vec3::ZERO),
+            Sampled::Total => (Case::Total, false, Vec3::ZERO),
+        };
+        ScatteredResult {
+            outcome: case as u64,
             reflection,
-            direction: wi,
-        },
-        Sampled::None => ScatteredResult {
-            outcome: 2,
-            reflection: false,
-            direction: ZERO3,
-        },
-        Sampled::Total => ScatteredResult {
-            outcome: 3,
-            reflection: false,
-            direction: ZERO3,
-        },
+            direction,
+        }
     }
 }

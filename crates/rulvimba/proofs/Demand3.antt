@@ -9,8 +9,9 @@ use lib.Dec.{leb}
 use lib.Ieee.{Float, le}
 use lib.ListN.{length}
 use borrow.Author.Tests.{leb-true, leb-false}
+use Rattle.std.proofs.Common.{Option, Some, None}
 use Rattle.floats.specs.Float.{f0, is_finite}
-use Rattle.numbers.specs.Refusal.{Verdict, accepted, rejected, ◌then◌, refuse, ◌▷◌}
+use Rattle.numbers.specs.Refusal.{Verdict, accepted, rejected}
 use Rattle.numbers.proofs.refusal.Numbers.{number_positive}
 use Rattle.optics.specs.Surface.{Microsurface, kind_code, kind_of}
 use Rattle.optics.specs.Bxdf.{Scattered, scattered, totally}
@@ -20,16 +21,13 @@ use Rattle.optics.specs.declared.microfacet.Kind.{Kind}
 use Rattle.optics.specs.declared.microfacet.Kind.TheVariants.{Metal, Glass}
 use Rattle.path.specs.declared.records.Path.{Path}
 use Rattle.path.specs.declared.records.Bounce.{Bounce}
-use Rattle.path.specs.declared.records.Density.{Density}
-use Rattle.path.specs.declared.records.Density.TheVariants as D
 use Rattle.path.specs.declared.records.Shares.{Shares}
-use Rattle.path.specs.declared.records.Shares.TheVariants as S
 use Rattle.path.specs.declared.records.Bounced.{Bounced}
 use Rattle.path.specs.declared.records.Bounced.TheVariants as B
 use Rattle.path.specs.declared.plain.BounceResult.{BounceResult}
 use Rattle.path.specs.Path.{path, ones, start}
 use Rattle.path.specs.Bounce.{check_bounce, lambda_on, scatter, advanced}
-use Rattle.path.specs.Answer.{Outcome, outcome, branch_of, worked, on_surface, answered, bounce, path_of}
+use Rattle.path.specs.Answer.{two_shares, Outcome, outcome, branch_of, worked, on_surface, answered, bounce, path_of}
 use Rattle.path.specs.Plain.{density_record, shares_record, bounce_result}
 use Rattle.path.specs.Demand3 as Path
 use Rattle.path.specs.Demand3.{ColorF64, SharesHold, DensityHolds, AnswerHolds, Run, end, bounced, Throughout, Answered}
@@ -37,7 +35,7 @@ use Rattle.path.proofs.Demand3.{demand_3}
 use Rattle.path.proofs.Answers.{answers}
 use Rattle.rulvimba.specs.declared.surfaces.SurfaceRecord.{SurfaceRecord}
 use Rattle.rulvimba.specs.Surfaces.{surface_of, surface_with}
-use Rattle.rulvimba.specs.Paths.{path_in, numbers_of, start_number, path_started, path_after}
+use Rattle.rulvimba.specs.Paths.{path_in, numbers_of, path_started, path_after}
 use Rattle.rulvimba.specs.Demand3.{Laid, Call, step_of, Calls, done, called, AfterEach, Demand3}
 use Rattle.rulvimba.proofs.UnknownKind.{unknown-checked}
 
@@ -92,31 +90,31 @@ left xs m b = go (check_bounce p m b)
 -- ---- what the record of an answer says of shares and density
 record Handed (kind : Kind) (r : BounceResult) : Type 0 where
   given : r.number ≡ 0 → r.shares.given ≡ kind_code kind
-  shares : r.shares.given ≡ 1 → SharesHold Glass (S.Of r.shares.reflected r.shares.passed)
-  density : DensityHolds (D.Finite r.density.value)
+  shares : r.shares.given ≡ 1 → SharesHold Glass (Some (two_shares r.shares.reflected r.shares.passed))
+  density : DensityHolds (Some r.density.value)
 
-no_density_lem : DensityHolds (D.Finite f0)
+no_density_lem : DensityHolds (Some f0)
 unfolding is_finite le
 no_density_lem = (tt, tt)
 
-density_record_lem : (d : Density) → DensityHolds d → DensityHolds (D.Finite (density_record d).value)
+density_record_lem : (d : Option Float) → DensityHolds d → DensityHolds (Some (density_record d).value)
 unfolding density_record
-density_record_lem (D.Finite x) h = h
-density_record_lem D.NotFinite h = no_density_lem
+density_record_lem (Some x) h = h
+density_record_lem None h = no_density_lem
 
-shares_given : (kind : Kind) (s : Shares) → SharesHold kind s → (shares_record s).given ≡ kind_code kind
+shares_given : (kind : Kind) (s : Option Shares) → SharesHold kind s → (shares_record s).given ≡ kind_code kind
 unfolding shares_record kind_code
-shares_given Metal S.None h = refl
-shares_given Metal (S.Of F rest) h = absurd h
-shares_given Glass S.None h = absurd h
-shares_given Glass (S.Of F rest) h = refl
+shares_given Metal None h = refl
+shares_given Metal (Some F) h = absurd h
+shares_given Glass None h = absurd h
+shares_given Glass (Some F) h = refl
 
-shares_record_lem : (kind : Kind) (s : Shares) → SharesHold kind s → (shares_record s).given ≡ 1 → SharesHold Glass (S.Of (shares_record s).reflected (shares_record s).passed)
+shares_record_lem : (kind : Kind) (s : Option Shares) → SharesHold kind s → (shares_record s).given ≡ 1 → SharesHold Glass (Some (two_shares (shares_record s).reflected (shares_record s).passed))
 unfolding shares_record
-shares_record_lem Metal S.None h e = absurd (omega arith)
-shares_record_lem Metal (S.Of F rest) h e = absurd h
-shares_record_lem Glass S.None h e = absurd h
-shares_record_lem Glass (S.Of F rest) h e = h
+shares_record_lem Metal None h e = absurd (omega arith)
+shares_record_lem Metal (Some F) h e = absurd h
+shares_record_lem Glass None h e = absurd h
+shares_record_lem Glass (Some F) h e = h
 
 handed : (kind : Kind) (a : Bounced) → AnswerHolds kind (outcome a) → Handed kind (bounce_result (outcome a))
 unfolding outcome bounce_result
@@ -188,7 +186,7 @@ from_start lambda xs f e calls =
     (subst (λ (q : Path). (run : Run q) → Throughout (path lambda ones) run) (sym p) (demand_3 lambda f) (run_of calls))
 
 pub demand_3_in_memory : Demand3
-unfolding Demand3 start start_number path_started
+unfolding Demand3 start path_started
 demand_3_in_memory lambda before n after f h = record {
   accepted = λ e.
       let m : after ≡ numbers_of (path lambda ones) = rw e at h.1 in

@@ -5,7 +5,7 @@ use mathlib.Core.List.{List}
 use lib.Ieee.{Float, le}
 use borrow.Author.Tests.{lt-leb}
 use Rattle.floats.specs.Float.{within, decimal}
-use Rattle.numbers.specs.Refusal.{refused, rejected, refuse, ◌then◌, ◌▷◌}
+use Rattle.numbers.specs.Refusal.{refused, rejected}
 use Rattle.optics.specs.Surface.{Outside, kind_of, roughness_min, is_roughness, roughness_holds, is_roughness_given}
 use Rattle.optics.specs.Check.{check_surface}
 use Rattle.counter.specs.Counter.{make_surface}

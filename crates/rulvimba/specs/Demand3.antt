@@ -1,13 +1,14 @@
 -- Demand 3 of the contract through the C library: a list of calls of rulvimba_bounce on one path in the caller's memory, after rulvimba_start. Definitions only; it is proved in proofs/Demand3.antt.
 -- What holds is said of the doubles by their places (`Laid`): the definitions that read a path from memory and write one come in by the contracts of the calls alone.
-use Rattle.std.specs.Prelude.{ℕ, ◌<◌, Float, length}
+use Rattle.std.specs.Prelude.{ℕ, ◌<◌, Float, Some, length}
 use mathlib.Core.{Path.◌≡◌, Bool.true, Bool.false, List.List}
 use Rattle.optics.specs.declared.{color.Color.Color, microfacet.Kind.TheVariants.Glass}
 use Rattle.path.specs.Path.{path, ones, is_start}
 use Rattle.path.specs.Many.{at}
+use Rattle.path.specs.Answer.{two_shares}
 use Rattle.path.specs.Reckoning.{reckon}
 use Rattle.path.specs.Demand3.{ColorF64, Step, StepF64, Fell, SharesHold, DensityHolds}
-use Rattle.path.specs.declared.{records.Path.Path, records.Bounce.Bounce, records.Density.TheVariants.Finite, records.Shares.TheVariants.Of, plain.BounceResult.BounceResult}
+use Rattle.path.specs.declared.{records.Path.Path, records.Bounce.Bounce, plain.BounceResult.BounceResult}
 use Rattle.rulvimba.specs.Surfaces.{SurfaceRecord, surface_with}
 use Rattle.rulvimba.specs.Paths.{StartCall, BounceCall}
 
@@ -40,9 +41,9 @@ pub record CallHolds (q : Path) (c : Call) (xs : List Float) (r : BounceResult) 
   -- every other call hands out shares on glass, kind 1, and none on metal, kind 0
   pub given : r.number ≡ 0 → r.shares.given ≡ c.surface.kind
   -- shares that are handed out are F and 1 - F, from 0 to 1, and add up to exactly 1.0
-  pub shares : r.shares.given ≡ 1 → SharesHold Glass (Of r.shares.reflected r.shares.passed)
+  pub shares : r.shares.given ≡ 1 → SharesHold Glass (Some (two_shares r.shares.reflected r.shares.passed))
   -- a density is finite and not below 0; where there is none, 0 stands there
-  pub density : DensityHolds (Finite r.density.value)
+  pub density : DensityHolds (Some r.density.value)
 
 -- ---- a list of calls on the path in memory: the numbers that go in are values of binary64, and what each call returned and left is what its contract says
 pub data Calls : List Float → Type 0 where

@@ -16,17 +16,23 @@ unfoldable pub check_number : Verdict → ℕ
 check_number accepted = 0
 check_number (rejected n) = n
 
+-- the number of an answer, and its value or what stands where there is none
+abbrev pub number_of : {A : Type 0} → Answer A → ℕ
+number_of (refused n) = n
+number_of (given x) = 0
+
+abbrev pub value_or : {A : Type 0} → Answer A → A → A
+value_or (refused n) nothing = nothing
+value_or (given x) nothing = x
+
 unfoldable pub float_result : Answer Float → FloatResult
-float_result (refused n) = record { number = n; value = f0 }
-float_result (given x) = record { number = 0; value = x }
+float_result a = record { number = number_of a; value = value_or a f0 }
 
 unfoldable pub color_result : Answer Color → ColorResult
-color_result (refused n) = record { number = n; value = color f0 f0 f0 f0 }
-color_result (given a) = record { number = 0; value = a }
+color_result a = record { number = number_of a; value = value_or a (color f0 f0 f0 f0) }
 
 unfoldable pub vec3_result : Answer Vec3 → Vec3Result
-vec3_result (refused n) = record { number = n; value = zero3 }
-vec3_result (given v) = record { number = 0; value = v }
+vec3_result a = record { number = number_of a; value = value_or a zero3 }
 
 -- a mirror or a bend: 0 refused, 1 a direction, 2 none, 3 total internal reflection
 unfoldable pub direction_result : Answer Outgoing → DirectionResult

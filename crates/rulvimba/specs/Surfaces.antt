@@ -4,7 +4,9 @@ use mathlib.Core.{Bool.cond, List.List}
 use Rattle.std.specs.Float.{nan}
 use Rattle.floats.specs.Float.{f0}
 use Rattle.numbers.specs.Vec2.{vec2}
-use Rattle.numbers.specs.Refusal.{Answer, refused, given}
+use Rattle.numbers.specs.Refusal.{Answer}
+use Rattle.counter.specs.Counter.{map_answer}
+use Rattle.rulvimba.specs.Results.{number_of, value_or}
 use Rattle.optics.specs.Surface.{Microsurface, microsurface, kind_code, is_kind_code, kind_of}
 use Rattle.optics.specs.declared.microfacet.Surface.{Surface}
 pub use Rattle.rulvimba.specs.declared.surfaces.{SurfaceRecord.SurfaceRecord, SurfaceResult.SurfaceResult}
@@ -26,7 +28,9 @@ surface_with s eta k outer = microsurface (surface_of s) eta k outer
 unfoldable pub surface_record : Surface → SurfaceRecord
 surface_record s = record { kind = kind_code s.kind; roughness = s.roughness }
 
+abbrev pub no_surface : SurfaceRecord
+no_surface = record { kind = 0; roughness = vec2 f0 f0 }
+
 -- 01's number and zeros, or 0 and the surface
 unfoldable pub surface_result : Answer Surface → SurfaceResult
-surface_result (refused n) = record { number = n; surface = record { kind = 0; roughness = vec2 f0 f0 } }
-surface_result (given s) = record { number = 0; surface = surface_record s }
+surface_result a = record { number = number_of a; surface = value_or (map_answer surface_record a) no_surface }

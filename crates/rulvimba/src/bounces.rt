@@ -4,8 +4,7 @@ ghost use Rattle.std.specs.Prelude.{◌≡◌, ◌++◌, ◌*◌, length, drop};
 ghost use Rattle.path.specs.Many.{all_bounced, count_of};
 ghost use Rattle.rulvimba.specs.Surfaces.{surface_with};
 
-use crate::surfaces;
-use crate::surfaces::SurfaceRecord;
+use crate::surfaces::{SurfaceRecord, lent};
 use path::many;
 
 // Runs as many bounces as both arrays have room for, and returns how many; what lies past their places
@@ -20,5 +19,5 @@ pub fn rulvimba_bounces(
 ) -> usize
     ensures { (result ≡ count_of (length input.now) (length output.old)) × (output.new ≡ all_bounced (surface_with surface eta.now k.now outer.now) input.now result ++ drop (18 * result) output.old) }
 {
-    many::bounces(surfaces::of_record(surface), eta, k, outer, input, output)
+    many::bounces(&lent(surface, eta, k, outer), input, output)
 }

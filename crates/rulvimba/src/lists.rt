@@ -1,4 +1,5 @@
-// The list of candidates in the caller's memory: a count, and 64 places for ids and for densities.
+// The list of candidates in the caller's memory: a count, and 64 places for ids and for densities. By hand: C lends
+// three pointers.
 ghost use Rattle.candidates.specs.Memory.{memory, arrival, departure};
 ghost use Rattle.rulvimba.specs.Lists.{ListCall};
 
@@ -16,7 +17,7 @@ pub fn rulvimba_arrive_in(
 ) -> u64
     ensures { ListCall (memory count.old ids.old densities.old) (arrival c) result (memory count.new ids.new densities.new) }
 {
-    records::of_check(list::arrive(count, ids, densities, c))
+    records::number_of(list::arrive(count, ids, densities, c))
 }
 
 // A candidate departs; a refusal leaves the memory as it was.
@@ -28,5 +29,5 @@ pub fn rulvimba_depart_in(
 ) -> u64
     ensures { ListCall (memory count.old ids.old densities.old) (departure id) result (memory count.new ids.new densities.new) }
 {
-    records::of_check(list::depart(count, ids, densities, id))
+    records::number_of(list::depart(count, ids, densities, id))
 }

@@ -1,30 +1,30 @@
-// A path in the caller's memory: eight doubles, four wavelengths and then four powers.
+// A path in the caller's memory: eight doubles, four wavelengths and then four powers. By hand: so C lends one.
 ghost use Rattle.std.specs.Prelude.{◌≡◌};
 ghost use Rattle.path.specs.Answer.{outcome};
 ghost use Rattle.rulvimba.specs.Paths.{path_in, numbers_of, path_after, StartCall, BounceCall};
 
-use crate::surfaces;
-use crate::surfaces::SurfaceRecord;
+use crate::surfaces::{SurfaceRecord, lent};
 use optics::color::Color;
+use path::bsdf;
 use path::plain::BounceResult;
-use path::records::{Bounce, Bounced, Path, Started};
-use path::{bsdf, plain};
+use path::records::{Bounce, Bounced, Path};
 
 fn load(numbers: &[f64; 8]) -> Path
     ensures { result ≡ path_in numbers.now }
 {
+    let [l0, l1, l2, l3, p0, p1, p2, p3] = *numbers;
     Path {
         lambda: Color {
-            s0: numbers[0],
-            s1: numbers[1],
-            s2: numbers[2],
-            s3: numbers[3],
+            s0: l0,
+            s1: l1,
+            s2: l2,
+            s3: l3,
         },
         power: Color {
-            s0: numbers[4],
-            s1: numbers[5],
-            s2: numbers[6],
-            s3: numbers[7],
+            s0: p0,
+            s1: p1,
+            s2: p2,
+            s3: p3,
         },
     }
 }
@@ -45,37 +45,29 @@ fn store(numbers: &mut [f64; 8], path: Path)
 }
 
 // Stores the path that an answer carries; a refusal stores nothing.
+#[tactic(auto, unfolding(crate::specs::Paths::path_after, path::specs::Answer::outcome))]
 fn keep(numbers: &mut [f64; 8], answer: Bounced)
     ensures { numbers.new ≡ path_after numbers.old (outcome answer) }
 {
     match answer {
-        Bounced::Refused { why: _, path: _ } => {}
-        Bounced::Lost { shares: _, path } => store(numbers, path),
-        Bounced::Reflected {
-            wi: _,
-            density: _,
-            shares: _,
-            path,
-        } => store(numbers, path),
-        Bounced::Passed {
-            wi: _,
-            density: _,
-            shares: _,
-            path,
-        } => store(numbers, path),
+        Bounced::Refused { .. } => {}
+        Bounced::Lost { path, .. }
+        | Bounced::Reflected { path, .. }
+        | Bounced::Passed { path, .. } => store(numbers, path),
     }
 }
 
 // Starts a path at four wavelengths; a refusal leaves the memory as it was.
+#[tactic(auto, unfolding(crate::specs::Paths::path_started))]
 pub fn rulvimba_start(path: &mut [f64; 8], lambda: Color) -> u64
     ensures { StartCall path.old lambda result path.new }
 {
     match Path::start(lambda) {
-        Started::Refused(why) => why.number(),
-        Started::Path(made) => {
+        Ok(made) => {
             store(path, made);
             0
         }
+        Err(why) => why.number(),
     }
 }
 
@@ -90,7 +82,7 @@ pub fn rulvimba_bounce(
 ) -> BounceResult
     ensures { BounceCall path.old surface eta.now k.now outer.now b result path.new }
 {
-    let answer = bsdf::bounce(load(path), surfaces::of_record(surface), eta, k, outer, b);
+    let answer = bsdf::bounce(load(path), &lent(surface, eta, k, outer), b);
     keep(path, answer);
-    plain::of_bounced(answer)
+    BounceResult::from(answer)
 }

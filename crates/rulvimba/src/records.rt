@@ -1,17 +1,17 @@
 // The answers as records for C: the number of the refusal, which is 0 where the call is accepted, and the
 // values, which are zeros where there are none.
 ghost use Rattle.std.specs.Prelude.{◌≡◌};
-ghost use Rattle.numbers.specs.Checked.{float_answer, vec3_answer};
-ghost use Rattle.numbers.specs.Refusal.{verdict};
-ghost use Rattle.counter.specs.Counter.{color_answer, reflect_answer, refract_answer};
-ghost use Rattle.rulvimba.specs.Results.{check_number, float_result, color_result, vec3_result, direction_result};
+ghost use Rattle.numbers.specs.Refusal.{verdict, answer};
+ghost use Rattle.optics.specs.Bxdf.{reflected, refracted};
+ghost use Rattle.counter.specs.Counter.{map_answer};
+ghost use Rattle.rulvimba.specs.Results.{check_number, number_of, value_or, float_result, color_result, vec3_result, direction_result};
 
-use counter::{ColorAnswer, ReflectAnswer, RefractAnswer};
-use numbers::checked::{FloatAnswer, Vec3Answer};
-use numbers::refusal::Check;
+use numbers::refusal::{Check, Refusal};
 use numbers::vec3::Vec3;
+use optics::bxdf::Refracted;
 use optics::color::Color;
 
+// By hand: a record for each type of value, since no generic struct crosses to C; what they share is `number_and`.
 #[repr(C)]
 #[derive(Clone, Copy)]
 pub struct FloatResult {
@@ -33,6 +33,15 @@ pub struct Vec3Result {
     pub value: Vec3,
 }
 
+// What a mirror, a bend or a sampler gives, by the number that `outcome` is. By hand: no enum crosses to C.
+#[derive(Clone, Copy, PartialEq, Eq, Debug)]
+pub enum Case {
+    Refused = 0,
+    Direction = 1,
+    None = 2,
+    Total = 3,
+}
+
 // `outcome` is 0 refused, 1 a direction, 2 none, 3 total internal reflection.
 #[repr(C)]
 #[derive(Clone, Copy)]
@@ -42,126 +51,113 @@ pub struct DirectionResult {
     pub direction: Vec3,
 }
 
-const ZERO3: Vec3 = Vec3 {
-    x: 0.0,
-    y: 0.0,
-    z: 0.0,
+// What stands where there is no color, and where there is no direction.
+const NO_COLOR: Color = Color {
+    s0: 0.0,
+    s1: 0.0,
+    s2: 0.0,
+    s3: 0.0,
 };
 
-pub fn of_check(check: Check) -> u64
+const NO_DIRECTION: DirectionResult = DirectionResult {
+    number: 0,
+    outcome: Case::Refused as u64,
+    direction: Vec3::ZERO,
+};
+
+// The number of a check.
+#[tactic(auto, unfolding(crate::specs::Results::check_number))]
+pub fn number_of(check: Check) -> u64
     ensures { result ≡ check_number (verdict check) }
 {
     match check {
-        Check::Accepted => 0,
-        Check::Refused(why) => why.number(),
+        Ok(()) => 0,
+        Err(why) => why.number(),
     }
 }
 
-pub fn of_float(answer: FloatAnswer) -> FloatResult
-    ensures { result ≡ float_result (float_answer answer) }
+// The number of an answer and its value, or the one that stands where there is none.
+pub fn number_and<T: Copy>(a: Result<T, Refusal>, nothing: T) -> (u64, T)
+    ensures { (result.0 ≡ number_of (answer a)) × (result.1 ≡ value_or (answer a) nothing) }
 {
-    match answer {
-        FloatAnswer::Refused(why) => {
-            FloatResult {
-                number: why.number(),
-                value: 0.0,
-            }
-        }
-        FloatAnswer::Given(x) => FloatResult {
-            number: 0,
-            value: x,
-        },
+    match a {
+        Ok(value) => (0, value),
+        Err(why) => (why.number(), nothing),
     }
 }
 
-pub fn of_color(answer: ColorAnswer) -> ColorResult
-    ensures { result ≡ color_result (color_answer answer) }
-{
-    match answer {
-        ColorAnswer::Refused(why) => {
-            ColorResult {
-                number: why.number(),
-                value: Color {
-                    s0: 0.0,
-                    s1: 0.0,
-                    s2: 0.0,
-                    s3: 0.0,
-                },
-            }
-        }
-        ColorAnswer::Given(x) => ColorResult {
-            number: 0,
-            value: x,
-        },
+impl From<Result<f64, Refusal>> for FloatResult {
+    ghost from_gives = { λ a r. r ≡ float_result (answer a) };
+
+    #[tactic(auto, unfolding(crate::specs::Results::float_result))]
+    fn from(a: Result<f64, Refusal>) -> FloatResult {
+        let (number, value) = number_and(a, 0.0);
+        FloatResult { number, value }
     }
 }
 
-pub fn of_vec3(answer: Vec3Answer) -> Vec3Result
-    ensures { result ≡ vec3_result (vec3_answer answer) }
-{
-    match answer {
-        Vec3Answer::Refused(why) => {
-            Vec3Result {
-                number: why.number(),
-                value: ZERO3,
-            }
-        }
-        Vec3Answer::Given(x) => Vec3Result {
-            number: 0,
-            value: x,
-        },
+impl From<Result<Color, Refusal>> for ColorResult {
+    ghost from_gives = { λ a r. r ≡ color_result (answer a) };
+
+    #[tactic(auto, unfolding(crate::specs::Results::color_result))]
+    fn from(a: Result<Color, Refusal>) -> ColorResult {
+        let (number, value) = number_and(a, NO_COLOR);
+        ColorResult { number, value }
     }
 }
 
-pub fn of_reflect(answer: ReflectAnswer) -> DirectionResult
-    ensures { result ≡ direction_result (reflect_answer answer) }
-{
-    match answer {
-        ReflectAnswer::Refused(why) => {
-            DirectionResult {
-                number: why.number(),
-                outcome: 0,
-                direction: ZERO3,
-            }
-        }
-        ReflectAnswer::Direction(wi) => DirectionResult {
-            number: 0,
-            outcome: 1,
-            direction: wi,
-        },
-        ReflectAnswer::None => DirectionResult {
-            number: 0,
-            outcome: 2,
-            direction: ZERO3,
-        },
+impl From<Result<Vec3, Refusal>> for Vec3Result {
+    ghost from_gives = { λ a r. r ≡ vec3_result (answer a) };
+
+    #[tactic(auto, unfolding(crate::specs::Results::vec3_result))]
+    fn from(a: Result<Vec3, Refusal>) -> Vec3Result {
+        let (number, value) = number_and(a, Vec3::ZERO);
+        Vec3Result { number, value }
     }
 }
 
-pub fn of_refract(answer: RefractAnswer) -> DirectionResult
-    ensures { result ≡ direction_result (refract_answer answer) }
-{
-    match answer {
-        RefractAnswer::Refused(why) => {
-            DirectionResult {
+impl From<Result<Refracted, Refusal>> for DirectionResult {
+    ghost from_gives = { λ a r. r ≡ direction_result (map_answer refracted (answer a)) };
+
+    #[tactic(auto, unfolding(crate::specs::Results::direction_result, optics::specs::Bxdf::refracted))]
+    fn from(a: Result<Refracted, Refusal>) -> DirectionResult {
+        match a {
+            Err(why) => DirectionResult {
                 number: why.number(),
-                outcome: 0,
-                direction: ZERO3,
-            }
+                ..NO_DIRECTION
+            },
+            Ok(Refracted::Direction(direction)) => DirectionResult {
+                outcome: Case::Direction as u64,
+                direction,
+                ..NO_DIRECTION
+            },
+            Ok(Refracted::None) => DirectionResult {
+                outcome: Case::None as u64,
+                ..NO_DIRECTION
+            },
+            Ok(Refracted::Total) => DirectionResult {
+                outcome: Case::Total as u64,
+                ..NO_DIRECTION
+            },
         }
-        RefractAnswer::Direction(wi) => DirectionResult {
-            number: 0,
-            outcome: 1,
-            direction: wi,
-        },
-        RefractAnswer::None => DirectionResult {
-            number: 0,
-            outcome: 2,
-            direction: ZERO3,
-        },
-        RefractAnswer::Total => DirectionResult {
-            number: 0,
-            outcome: 3,
-            direction: ZERO3,
-        },
+    }
+}
+
+// A mirror answers as a bend that never reflects totally.
+#[tactic(auto, unfolding(optics::specs::Bxdf::reflected, optics::specs::Bxdf::refracted))]
+fn as_bend(wi: Option<Vec3>) -> Refracted
+    ensures { refracted result ≡ reflected wi }
+{
+    match wi {
+        Some(wi) => Refracted::Direction(wi),
+        None => Refracted::None,
+    }
+}
+
+impl From<Result<Option<Vec3>, Refusal>> for DirectionResult {
+    ghost from_gives = { λ a r. r ≡ direction_result (map_answer reflected (answer a)) };
+
+    fn from(a: Result<Option<Vec3>, Refusal>) -> DirectionResult {
+        DirectionResult::from(a.map(as_bend))
     }
 }

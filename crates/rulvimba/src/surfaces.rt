@@ -4,16 +4,17 @@ ghost use Rattle.std.specs.Prelude.{◌≡◌};
 ghost use Rattle.optics.specs.Surface.{kind_of, medium};
 ghost use Rattle.optics.specs.Check.{check_surface};
 ghost use Rattle.counter.specs.Counter as Counter;
-ghost use Rattle.counter.specs.Counter.{surface_answer};
-ghost use Rattle.rulvimba.specs.Surfaces.{roughness_of, surface_of, surface_with, surface_result};
+ghost use Rattle.numbers.specs.Refusal.{answer};
+ghost use Rattle.rulvimba.specs.Surfaces.{roughness_of, surface_of, surface_record, surface_with, surface_result};
 ghost use Rattle.rulvimba.specs.Results.{check_number};
 
 use crate::records;
-use counter::SurfaceAnswer;
+use crate::records::number_and;
 use floats::float;
+use numbers::refusal::Refusal;
 use numbers::vec2::Vec2;
 use optics::check;
-use optics::microfacet::{Kind, METAL_CODE, Surface};
+use optics::microfacet::{Kind, Microsurface, Spectra, Surface, UnknownKind};
 
 #[repr(C)]
 #[derive(Clone, Copy)]
@@ -29,54 +30,74 @@ pub struct SurfaceResult {
     pub surface: SurfaceRecord,
 }
 
-fn roughness_of(kind: u64, a: f64) -> f64
-    ensures { result ≡ roughness_of kind a }
-{
-    if Kind::is_code(kind) {
-        return a;
-    }
-    float::nan()
-}
+// A kind that is neither metal nor glass gets a roughness that no check accepts.
+impl From<SurfaceRecord> for Surface {
+    ghost from_gives = { λ r s. s ≡ surface_of r };
 
-pub fn of_record(surface: SurfaceRecord) -> Surface
-    ensures { result ≡ surface_of surface }
-{
-    let kind = surface.kind;
-    let x = surface.roughness.x;
-    let y = surface.roughness.y;
-    Surface {
-        kind: Kind::of_code(kind),
-        roughness: Vec2 {
-            x: roughness_of(kind, x),
-            y: roughness_of(kind, y),
-        },
+    #[tactic(auto, unfolding(crate::specs::Surfaces::surface_of, crate::specs::Surfaces::roughness_of, optics::specs::Surface::kind_read, optics::specs::Surface::kind_of))]
+    fn from(record: SurfaceRecord) -> Surface {
+        match Kind::try_from(record.kind) {
+            Ok(kind) => Surface {
+                kind,
+                roughness: record.roughness,
+            },
+            Err(UnknownKind) => Surface {
+                kind: Kind::Glass,
+                roughness: Vec2::splat(float::nan()),
+            },
+        }
     }
 }
 
-fn of_made(answer: SurfaceAnswer) -> SurfaceResult
-    ensures { result ≡ surface_result (surface_answer answer) }
+impl From<Surface> for SurfaceRecord {
+    ghost from_gives = { λ s r. r ≡ surface_record s };
+
+    #[tactic(auto, unfolding(crate::specs::Surfaces::surface_record))]
+    fn from(surface: Surface) -> SurfaceRecord {
+        SurfaceRecord {
+            kind: u64::from(surface.kind),
+            roughness: surface.roughness,
+        }
+    }
+}
+
+// A surface that C hands over, with the spectra that it lends for it.
+pub fn lent<'a>(
+    surface: SurfaceRecord,
+    eta: &'a [f64],
+    k: &'a [f64],
+    outer: &'a [f64],
+) -> Microsurface<'a>
+    ensures { result ≡ surface_with surface eta.now k.now outer.now }
 {
-    match answer {
-        SurfaceAnswer::Refused(why) => {
-            SurfaceResult {
-                number: why.number(),
-                surface: SurfaceRecord {
-                    kind: METAL_CODE,
-                    roughness: Vec2 { x: 0.0, y: 0.0 },
-                },
-            }
-        }
-        SurfaceAnswer::Given(surface) => {
-            let kind = surface.kind;
-            let roughness = surface.roughness;
-            SurfaceResult {
-                number: 0,
-                surface: SurfaceRecord {
-                    kind: kind.code(),
-                    roughness,
-                },
-            }
-        }
+    Microsurface {
+        surface: Surface::from(surface),
+        spectra: Spectra { eta, k, outer },
+    }
+}
+
+const NO_SURFACE: SurfaceRecord = SurfaceRecord {
+    kind: Kind::Metal as u64,
+    roughness: Vec2 { x: 0.0, y: 0.0 },
+};
+
+impl From<Result<Surface, Refusal>> for SurfaceResult {
+    ghost from_gives = { λ a r. r ≡ surface_result (answer a) };
+
+    #[tactic(auto, unfolding(crate::specs::Surfaces::surface_result))]
+    fn from(a: Result<Surface, Refusal>) -> SurfaceResult {
+        let (number, surface) = number_and(a.map(SurfaceRecord::from), NO_SURFACE);
+        SurfaceResult { number, surface }
+    }
+}
+
+#[tactic(auto, unfolding(crate::specs::Surfaces::roughness_of, optics::specs::Surface::kind_read, optics::specs::Surface::kind_of, numbers::specs::Refusal::number))]
+fn made(kind: u64, roughness: f64, spectra: &Spectra<'_>) -> Result<Surface, Refusal>
+    ensures { answer result ≡ Counter.make_surface (kind_of kind) (roughness_of kind roughness) spectra.now.eta spectra.now.k (medium spectra.now.outer) }
+{
+    match Kind::try_from(kind) {
+        Ok(kind) => counter::make_surface(kind, roughness, spectra),
+        Err(UnknownKind) => Err(Refusal::Roughness),
     }
 }
 
@@ -90,18 +111,12 @@ pub fn rulvimba_make_surface(
 ) -> SurfaceResult
     ensures { result ≡ surface_result (Counter.make_surface (kind_of kind) (roughness_of kind roughness) eta.now k.now (medium outer.now)) }
 {
-    of_made(counter::make_surface(
-        Kind::of_code(kind),
-        roughness_of(kind, roughness),
-        eta,
-        k,
-        outer,
-    ))
+    SurfaceResult::from(made(kind, roughness, &Spectra { eta, k, outer }))
 }
 
 // The number that the fields of a surface are refused with, or 0.
 pub fn rulvimba_check_surface(surface: SurfaceRecord, eta: &[f64], k: &[f64], outer: &[f64]) -> u64
     ensures { result ≡ check_number (check_surface (surface_with surface eta.now k.now outer.now)) }
 {
-    records::of_check(check::check_surface(of_record(surface), eta, k, outer))
+    records::number_of(check::check_surface(&lent(surface, eta, k, outer)))
 }

@@ -6,15 +6,14 @@ ghost use Rattle.rulvimba.specs.Surfaces.{surface_with};
 ghost use Rattle.rulvimba.specs.Results.{float_result, color_result, vec3_result, direction_result};
 
 use crate::records::{ColorResult, DirectionResult, FloatResult, Vec3Result};
-use crate::surfaces::SurfaceRecord;
-use crate::{records, surfaces};
+use crate::surfaces::{SurfaceRecord, lent};
 use numbers::vec3::Vec3;
 use optics::color::Color;
 
 pub fn rulvimba_lookup(values: &[f64], lambda: f64) -> FloatResult
     ensures { result ≡ float_result (lookup values.now lambda) }
 {
-    records::of_float(numbers::checked::lookup(values, lambda))
+    FloatResult::from(numbers::checked::lookup(values, lambda))
 }
 
 // ---- facet terms
@@ -27,7 +26,7 @@ pub fn rulvimba_lambda(
 ) -> FloatResult
     ensures { result ≡ float_result (Counter.lambda (surface_with surface eta.now k.now outer.now) w) }
 {
-    records::of_float(counter::lambda(surfaces::of_record(surface), eta, k, outer, w))
+    FloatResult::from(counter::lambda(&lent(surface, eta, k, outer), w))
 }
 
 pub fn rulvimba_g1(
@@ -40,7 +39,7 @@ pub fn rulvimba_g1(
 ) -> FloatResult
     ensures { result ≡ float_result (Counter.g1 (surface_with surface eta.now k.now outer.now) wo wh) }
 {
-    records::of_float(counter::g1(surfaces::of_record(surface), eta, k, outer, wo, wh))
+    FloatResult::from(counter::g1(&lent(surface, eta, k, outer), wo, wh))
 }
 
 pub fn rulvimba_g(
@@ -54,7 +53,7 @@ pub fn rulvimba_g(
 ) -> FloatResult
     ensures { result ≡ float_result (Counter.g (surface_with surface eta.now k.now outer.now) wo wi wh) }
 {
-    records::of_float(counter::g(surfaces::of_record(surface), eta, k, outer, wo, wi, wh))
+    FloatResult::from(counter::g(&lent(surface, eta, k, outer), wo, wi, wh))
 }
 
 pub fn rulvimba_d(
@@ -66,7 +65,7 @@ pub fn rulvimba_d(
 ) -> FloatResult
     ensures { result ≡ float_result (Counter.d (surface_with surface eta.now k.now outer.now) wh) }
 {
-    records::of_float(counter::d(surfaces::of_record(surface), eta, k, outer, wh))
+    FloatResult::from(counter::d(&lent(surface, eta, k, outer), wh))
 }
 
 // ---- Fresnel, at one wavelength and at four
@@ -81,7 +80,7 @@ pub fn rulvimba_fresnel_at(
 ) -> FloatResult
     ensures { result ≡ float_result (Counter.f_at (surface_with surface eta.now k.now outer.now) wo wh lambda) }
 {
-    records::of_float(counter::f_at(surfaces::of_record(surface), eta, k, outer, wo, wh, lambda))
+    FloatResult::from(counter::f_at(&lent(surface, eta, k, outer), wo, wh, lambda))
 }
 
 pub fn rulvimba_fresnel(
@@ -95,7 +94,7 @@ pub fn rulvimba_fresnel(
 ) -> ColorResult
     ensures { result ≡ color_result (Counter.f (surface_with surface eta.now k.now outer.now) wo wh lambda) }
 {
-    records::of_color(counter::f(surfaces::of_record(surface), eta, k, outer, wo, wh, lambda))
+    ColorResult::from(counter::f(&lent(surface, eta, k, outer), wo, wh, lambda))
 }
 
 // ---- sampler, mirror, bend
@@ -111,28 +110,19 @@ pub fn rulvimba_sample_normal(
 ) -> Vec3Result
     ensures { result ≡ vec3_result (Counter.sample_normal (surface_with surface eta.now k.now outer.now) wo disk c s) }
 {
-    records::of_vec3(counter::sample_normal(
-        surfaces::of_record(surface),
-        eta,
-        k,
-        outer,
-        wo,
-        disk,
-        c,
-        s,
-    ))
+    Vec3Result::from(counter::sample_normal(&lent(surface, eta, k, outer), wo, disk, c, s))
 }
 
 pub fn rulvimba_reflect(wo: Vec3, n: Vec3) -> DirectionResult
     ensures { result ≡ direction_result (Counter.reflect wo n) }
 {
-    records::of_reflect(counter::reflect(wo, n))
+    DirectionResult::from(counter::reflect(wo, n))
 }
 
 pub fn rulvimba_refract(eta: f64, wo: Vec3, n: Vec3) -> DirectionResult
     ensures { result ≡ direction_result (Counter.refract eta wo n) }
 {
-    records::of_refract(counter::refract(eta, wo, n))
+    DirectionResult::from(counter::refract(eta, wo, n))
 }
 
 // ---- density
@@ -148,14 +138,5 @@ pub fn rulvimba_density(
 ) -> FloatResult
     ensures { result ≡ float_result (Counter.pdf (surface_with surface eta.now k.now outer.now) wo wi reflection lambda) }
 {
-    records::of_float(counter::pdf(
-        surfaces::of_record(surface),
-        eta,
-        k,
-        outer,
-        wo,
-        wi,
-        reflection,
-        lambda,
-    ))
+    FloatResult::from(counter::pdf(&lent(surface, eta, k, outer), wo, wi, reflection, lambda))
 }

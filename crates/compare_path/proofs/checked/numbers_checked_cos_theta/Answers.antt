@@ -1,5 +1,0 @@
--- `numbers_checked_cos_theta` meets its contract: the answer's layout, and the answer.
-use Rattle.compare_path.proofs.checked.numbers_checked_cos_theta.Goals as goal
-
-pub returns : goal.returns
-returns c = rw (c.of_float.ensures, c.cos_theta.ensures)

@@ -1,0 +1,5 @@
+-- `rulvimba::surfaces::lent` meets its contract: the surface of the record, with each spectrum in its place.
+use Rattle.rulvimba.proofs.surfaces.lent.Goals as goal
+
+pub returns : goal.returns
+returns c = rw (← c.from.ensures)
