@@ -1,3 +1,2 @@
 -- The laws of what a job holds.
-pub mod Lists
 pub mod Held

@@ -5,6 +5,9 @@ use std::fs::File;
 use std::io::Read;
 use text::{digits, patterns};
 
+// What stands for a number that is none: no function has it.
+const NO_NUMBER: u64 = 100000;
+
 // What a record begins with; how many words come out is known by the function. A function goes by its number, which is
 // all that the file says of it.
 #[derive(Clone, Copy)]
@@ -18,8 +21,8 @@ pub fn read_head(file: &mut File) -> Option<Head> {
     let mut text = [0u8; 8];
     file.read_exact(&mut text).ok()?;
     Some(Head {
-        number: digits::decimal(&text[0..3]),
-        ins: digits::decimal(&text[4..6]),
+        number: digits::decimal(&text[0..3]).unwrap_or(NO_NUMBER),
+        ins: digits::decimal(&text[4..6]).unwrap_or(NO_NUMBER),
     })
 }
 
@@ -34,7 +37,7 @@ pub fn line_end(file: &mut File) {
 pub fn word(file: &mut File) -> u64 {
     let mut t = [0u8; 17];
     let _ = file.read_exact(&mut t);
-    digits::hex16(&t[1..]).bits
+    digits::hex16(&t[1..]).unwrap_or(0)
 }
 
 // The words that go in, as floats; the places behind them are 0.

@@ -12,6 +12,9 @@ use std::fs::File;
 use std::io::Read;
 use text::{digits, patterns};
 
+// What stands for a number that is none: no refusal and no count is it.
+const NO_NUMBER: u64 = 100000;
+
 // What is called.
 #[derive(Clone, Copy)]
 pub enum Call {
@@ -31,7 +34,7 @@ pub struct Head {
 
 // Sixteen digits, 0 where they are none.
 fn bits_of(t: &[u8]) -> u64 {
-    digits::hex16(t).bits
+    digits::hex16(t).unwrap_or(0)
 }
 
 // An id of four digits, a blank, and a density of sixteen.
@@ -60,8 +63,8 @@ pub fn read_head(file: &mut File) -> Option<Head> {
     file.read_exact(&mut t).ok()?;
     Some(Head {
         call: call_of(t[0], candidate_of(&t[2..23])),
-        number: digits::decimal(&t[24..26]),
-        entries: digits::decimal(&t[27..29]),
+        number: digits::decimal(&t[24..26]).unwrap_or(NO_NUMBER),
+        entries: digits::decimal(&t[27..29]).unwrap_or(NO_NUMBER),
     })
 }
 

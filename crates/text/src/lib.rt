@@ -1,12 +1,11 @@
-// Text that programs read and write: the words of a line, the digits and the bit pattern of a number, the
-// lines of a buffer that is read to, what is wrong with a line of a job, and answers, faults and numbers
-// put behind the text of a buffer. Every function takes any input, and none calls the model.
+// Text that programs read and write: the words of a line, the digits and the bit pattern of a number, what
+// is wrong with a line of a job, and answers, faults and numbers put behind the text of a buffer. Every
+// function takes any input, and none calls the model.
 #![tactic(auto)]
 
 pub mod answers;
-pub mod buffer;
 pub mod digits;
-mod faults;
+pub mod faults;
 pub mod line;
 pub mod output;
 pub mod patterns;

@@ -1,101 +1,119 @@
-// Text put behind the first `n` bytes of a buffer. Each function answers how many bytes are used then;
-// what finds no room is left out.
+// Text put into a buffer that the caller lends. What finds no room is left out.
+ghost use Rattle.std.specs.Prelude.{◌≡◌, ◌+◌, ◌≤◌, [], length};
+ghost use Rattle.text.specs.Output.{put};
+
 use crate::patterns;
+use std::fmt;
+use std::marker::Model;
 
-pub(crate) fn byte(out: &mut [u8], n: usize, b: u8) -> usize {
-    if n < out.len() {
-        out[n] = b;
-        return n + 1;
+// The first `used` bytes of a buffer are the text.
+#[derive(Drop)]
+pub struct Output<'a> {
+    bytes: &'a mut [u8],
+    used: usize,
+    ghost inside: { used ≤ length bytes.now },
+}
+
+impl<'a> Model for Output<'a> {
+    ghost use Rattle.std.specs.Prelude.{◌-◌, length, take};
+    ghost use Rattle.text.specs.Output.{Text};
+
+    ghost Value = { Text };
+
+    ghost view = { λ o. record { written = take o.used o.bytes.now; room = length o.bytes.now - o.used } };
+}
+
+fn glyph(d: u8) -> u8 {
+    match d {
+        0..=9 => b'0' + d,
+        _ => b'a' - 10 + (d & 15),
     }
-    n
 }
 
-pub fn text(out: &mut [u8], n: usize, t: &[u8]) -> usize {
-    let mut used = n;
-    let mut i: usize = 0;
-    while i < t.len() {
-        used = byte(out, used, t[i]);
-        i += 1;
+// The 16 hexadecimal digits of some bits.
+fn hex16(bits: u64) -> [u8; 16] {
+    let mut digits = [0; 16];
+    let mut rest = bits;
+    for digit in digits.iter_mut().rev() {
+        *digit = glyph((rest & 15) as u8);
+        rest >>= 4;
     }
-    used
+    digits
 }
 
-// The digit of a value that counts in `unit`, a power of ten; a 0 before all others is left out.
-fn decimal_digit(out: &mut [u8], n: usize, value: u64, unit: u64) -> usize {
-    if unit == 0 {
-        return n;
+impl<'a> Output<'a> {
+    // No text yet.
+    pub fn new(bytes: &'a mut [u8]) -> Output<'a>
+        ensures written { result.written ≡ [] }
+        ensures room { result.room ≡ length bytes.old }
+    {
+        Output { bytes, used: 0 }
     }
-    if value < unit && unit != 1 {
-        return n;
+
+    // The text so far.
+    pub fn written(&self) -> &[u8]
+        ensures { result.now ≡ self.now.written }
+    {
+        &self.bytes[..self.used]
     }
-    byte(out, n, glyph(value / unit % 10))
-}
 
-// A power of ten that no digit of a value stands before; small for a small value, to save turns.
-fn first_unit(value: u64) -> u64 {
-    if value < 1000000 {
-        return 100000;
+    // How many bytes more there is room for.
+    pub fn room(&self) -> usize
+        ensures { result ≡ self.now.room }
+    {
+        self.bytes.len() - self.used
     }
-    10000000000000000000
-}
 
-// The decimal digits of a value.
-pub fn decimal(out: &mut [u8], n: usize, value: u64) -> usize {
-    let mut used = n;
-    let mut unit = first_unit(value);
-    while unit > 0 {
-        used = decimal_digit(out, used, value, unit);
-        unit /= 10;
+    // Begins anew.
+    pub fn clear(&mut self)
+        ensures written { self.new.written ≡ [] }
+        ensures room { self.new.room ≡ self.old.room + length self.old.written }
+    {
+        self.used = 0;
     }
-    used
-}
 
-// A text and a decimal behind it.
-pub fn labelled(out: &mut [u8], n: usize, label: &[u8], value: u64) -> usize {
-    let a = text(out, n, label);
-    decimal(out, a, value)
-}
-
-fn glyph(d: u64) -> u8 {
-    let v = (d % 16) as u8;
-    if v < 10 {
-        return b'0' + v;
+    pub fn text(&mut self, text: &[u8])
+        ensures { self.new ≡ put self.old text.now }
+    {
+        let n = text.len().min(self.bytes.len() - self.used);
+        let end = self.used + n;
+        self.bytes[self.used..end].copy_from_slice(&text[..n]);
+        self.used = end;
     }
-    b'a' - 10 + v
-}
 
-fn hex4(out: &mut [u8], n: usize, v: u64) -> usize {
-    let a = byte(out, n, glyph(v / 4096));
-    let b = byte(out, a, glyph(v / 256));
-    let c = byte(out, b, glyph(v / 16));
-    byte(out, c, glyph(v))
-}
-
-fn hex16(out: &mut [u8], n: usize, bits: u64) -> usize {
-    let a = hex4(out, n, bits / 281474976710656);
-    let b = hex4(out, a, bits / 4294967296);
-    let c = hex4(out, b, bits / 65536);
-    hex4(out, c, bits)
-}
-
-// A blank and the number.
-pub fn number(out: &mut [u8], n: usize, x: f64) -> usize {
-    let a = byte(out, n, b' ');
-    hex16(out, a, patterns::bits(x))
-}
-
-fn numbers(out: &mut [u8], n: usize, values: &[f64]) -> usize {
-    let mut used = n;
-    let mut i: usize = 0;
-    while i < values.len() {
-        used = number(out, used, values[i]);
-        i += 1;
+    // The decimal digits of a value.
+    pub fn decimal(&mut self, value: u64) {
+        let _ = fmt::Write::write(self, value);
     }
-    used
+
+    // A text and a decimal behind it.
+    pub fn labelled(&mut self, label: &[u8], value: u64) {
+        self.text(label);
+        self.decimal(value);
+    }
+
+    // A blank and the number.
+    pub fn number(&mut self, x: f64) {
+        self.text(b" ");
+        self.text(&hex16(patterns::bits(x)));
+    }
+
+    pub fn numbers(&mut self, values: &[f64]) {
+        for x in values {
+            self.number(*x);
+        }
+    }
+
+    // A text and numbers behind it.
+    pub fn labelled_numbers(&mut self, label: &[u8], values: &[f64]) {
+        self.text(label);
+        self.numbers(values);
+    }
 }
 
-// A text and numbers behind it.
-pub fn labelled_numbers(out: &mut [u8], n: usize, label: &[u8], values: &[f64]) -> usize {
-    let a = text(out, n, label);
-    numbers(out, a, values)
+impl<'a> fmt::Write for Output<'a> {
+    fn write_str(&mut self, s: &str) -> fmt::Result {
+        self.text(s.as_bytes());
+        Ok(())
+    }
 }
