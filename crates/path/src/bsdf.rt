@@ -1,21 +1,18 @@
 // A bounce, from a world direction to the powers that are left: lumo's `BSDF::sample`
 // (src/tracer/bsdf.rs) with the density and the weights of what it sampled.
-ghost use Rattle.std.specs.Prelude.{◌≡◌, cond, if◌then◌else◌};
+ghost use Rattle.std.specs.Prelude.{◌≡◌, cond};
 ghost use Rattle.floats.specs.Float.{f0};
 ghost use Rattle.optics.specs.Color.{color};
 ghost use Rattle.numbers.specs.Refusal.{answer, given, ◌▷◌};
-ghost use Rattle.numbers.specs.Vec3.{dot};
 ghost use Rattle.numbers.specs.DenseSpectrum.{step_of};
 ghost use Rattle.optics.specs.Known.{known_on_glass};
-ghost use Rattle.optics.specs.Facets.{is_delta, lambda};
-ghost use Rattle.optics.specs.Bxdf.{is_smooth};
-ghost use Rattle.optics.specs.Density.{conductor_pdf, dielectric_pdf};
 ghost use Rattle.optics.specs.declared.microfacet.Kind.TheVariants.{Metal, Glass};
 ghost use Rattle.path.specs.Path.{path, weighed, terminate};
-ghost use Rattle.path.specs.Bounce.{shadowing, check_bounce};
+ghost use Rattle.path.specs.Bounce.{check_bounce};
 ghost use Rattle.path.specs.Known.{found_on, entries};
 ghost use Rattle.path.specs.Answer.{outcome, lost, density_of, branch_of, on_surface, bounce};
 
+use crate::facet::Facet;
 use crate::prepared::{Found, Prepared};
 use crate::records::{Bounce, Bounced, Path, Shares};
 use crate::{check, wavelength, weight};
@@ -70,17 +67,14 @@ fn on_metal(step: f64, path: Path, m: &Microsurface<'_>, b: Bounce) -> Bounced
     let mfd = Ggx { roughness };
     let wh = conductor::normal(wo, mfd, b.disk, b.c, b.s);
     // the roots of Λ(wo) wait for no other: they are worked while those of the normal are waited for
-    let delta = mfd.is_delta();
-    let lambda_wo = mfd.lambda_unless(delta, wo);
-    let Sampled::Direction { wi, reflection: _ } = conductor::sample_from(wo, mfd, wh) else {
+    let facet = Facet::on_metal(mfd, wo, wh);
+    let Sampled::Direction { wi, .. } = conductor::sample_from(wo, mfd, wh) else {
         return lost(path, None);
     };
 
-    let seen = seen_on_metal(delta, lambda_wo, mfd, wo, wi, wh);
-    let filter = weight::metal_filter(
-        b.ks,
-        microfacet::f_on_metal(step, &m.spectra, wo, wh, path.lambda),
-    );
+    let seen = facet.seen_on_metal(wi);
+    let f = microfacet::f_on_metal(step, &m.spectra, wo, wh, path.lambda);
+    let filter = weight::metal_filter(b.ks, f);
     Bounced::Reflected {
         wi: uvw.to_world(wi),
         density: density_of(seen.pdf),
@@ -108,25 +102,22 @@ fn on_glass(known: Known, path: Path, m: &Microsurface<'_>, b: Bounce) -> Bounce
     let mfd = Ggx { roughness };
     let wh = dielectric::normal(wo, mfd, at.eta, b.disk, b.c, b.s);
     // the roots of Λ(wo) wait for no other: they are worked while those of the normal are waited for
-    let smooth = dielectric::is_smooth(mfd, at.eta);
-    let lambda_wo = mfd.lambda_unless(smooth, wo);
+    let facet = Facet::on_glass(mfd, at.eta, wo, wh);
     // the share that is reflected and the bend read the same root, that of Snell's law
-    let wo_dot_wh = wo.dot(wh);
-    let snell = Snell::new(wo_dot_wh, at.eta);
-    let f = microfacet::fresnel_from(snell, wo_dot_wh, at.eta, at.k);
+    let cos_o = facet.wo_dot_wh;
+    let snell = Snell::new(cos_o, at.eta);
+    let f = microfacet::fresnel_from(snell, cos_o, at.eta, at.k);
     let shares = Some(Shares {
         reflected: f,
         passed: 1.0 - f,
     });
     let Sampled::Direction { wi, reflection } = dielectric::sample_from(
-        snell, wo_dot_wh, wo, wh, f, b.u,
+        snell, cos_o, wo, wh, f, b.u,
     ) else {
         return lost(left, shares);
     };
 
-    let seen = seen_on_glass(
-        smooth, lambda_wo, wo_dot_wh, mfd, at.eta, at.k, wo, wi, wh, reflection,
-    );
+    let seen = facet.seen_on_glass(at, wi, reflection);
     let filter = weight::glass_filter(reflection, b.ks, b.tf);
     sent(
         reflection,
@@ -138,6 +129,7 @@ fn on_glass(known: Known, path: Path, m: &Microsurface<'_>, b: Bounce) -> Bounce
 }
 
 // Light that glass sends on, by the branch that was taken.
+#[tactic(auto, unfolding(crate::specs::Answer::branch_of, crate::specs::Answer::outcome))]
 fn sent(
     reflection: bool,
     wi: Vec3,
@@ -148,18 +140,19 @@ fn sent(
     ensures { outcome result ≡ branch_of reflection wi density shares path }
 {
     if reflection {
-        return Bounced::Reflected {
+        Bounced::Reflected {
             wi,
             density,
             shares,
             path,
-        };
-    }
-    Bounced::Passed {
-        wi,
-        density,
-        shares,
-        path,
+        }
+    } else {
+        Bounced::Passed {
+            wi,
+            density,
+            shares,
+            path,
+        }
     }
 }
 
@@ -169,53 +162,14 @@ fn left_on_glass(constant: bool, lambda: Color) -> Color
     ensures { result ≡ cond «constant» lambda (terminate lambda) }
 {
     if constant {
-        return lambda;
+        lambda
+    } else {
+        wavelength::terminate(lambda)
     }
-    wavelength::terminate(lambda)
-}
-
-// Of a sampled direction: its density, and the share q of the light that the facets let through to it.
-// Both read Λ(wo), which is handed on, as is whether the surface scatters into one direction. The normal
-// that takes wo to wi stands first: its root is the one that most waits for.
-#[derive(Clone, Copy)]
-struct Seen {
-    pdf: f64,
-    q: f64,
-}
-
-fn seen_on_metal(delta: bool, lambda_wo: f64, mfd: Ggx, wo: Vec3, wi: Vec3, wh: Vec3) -> Seen
-    requires { (delta ≡ is_delta mfd.roughness) × (lambda_wo ≡ (if delta then f0 else lambda mfd.roughness wo)) }
-    ensures { (result.pdf ≡ conductor_pdf mfd.roughness wo wi) × (result.q ≡ shadowing (is_delta mfd.roughness) mfd.roughness wo wi wh) }
-{
-    let half = conductor::half(wo, wi);
-    let q = weight::shadowing(mfd, delta, lambda_wo, wo.dot(wh), wo, wi, wh);
-    let pdf = conductor::pdf_at(lambda_wo, wo, wi, half, mfd);
-    Seen { pdf, q }
-}
-
-fn seen_on_glass(
-    smooth: bool,
-    lambda_wo: f64,
-    wo_dot_wh: f64,
-    mfd: Ggx,
-    eta: f64,
-    k: f64,
-    wo: Vec3,
-    wi: Vec3,
-    wh: Vec3,
-    reflection: bool,
-) -> Seen
-    requires { (smooth ≡ is_smooth mfd.roughness eta) × (lambda_wo ≡ (if smooth then f0 else lambda mfd.roughness wo)) × (wo_dot_wh ≡ dot wo wh) }
-    ensures { (result.pdf ≡ dielectric_pdf mfd.roughness eta k reflection wo wi) × (result.q ≡ shadowing (is_smooth mfd.roughness eta) mfd.roughness wo wi wh) }
-{
-    let ratio = dielectric::eta_ratio(reflection, wo, eta);
-    let half = dielectric::half(eta, ratio, wo, wi);
-    let q = weight::shadowing(mfd, smooth, lambda_wo, wo_dot_wh, wo, wi, wh);
-    let pdf = dielectric::pdf_at(lambda_wo, wo, wi, half, reflection, mfd, eta, k, ratio);
-    Seen { pdf, q }
 }
 
 // No power is left of light that is lost.
+#[tactic(auto, unfolding(crate::specs::Answer::outcome))]
 fn lost(left: Path, shares: Option<Shares>) -> Bounced
     ensures { outcome result ≡ lost shares (path left.lambda (weighed left.power (color f0 f0 f0 f0))) }
 {
@@ -225,11 +179,10 @@ fn lost(left: Path, shares: Option<Shares>) -> Bounced
     }
 }
 
+// A density is given where it is finite.
+#[tactic(auto, unfolding(crate::specs::Answer::density_of))]
 fn density_of(density: f64) -> Option<f64>
     ensures { result ≡ density_of density }
 {
-    if float::is_finite(density) {
-        return Some(density);
-    }
-    None
+    float::is_finite(density).then_some(density)
 }

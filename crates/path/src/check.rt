@@ -18,14 +18,11 @@ use optics::color::Color;
 fn all_shares(a: Color) -> bool
     ensures { result ≡ all4 (within f0 f1) a }
 {
-    float::within(0.0, 1.0, a.s0)
-        & float::within(0.0, 1.0, a.s1)
-        & float::within(0.0, 1.0, a.s2)
-        & float::within(0.0, 1.0, a.s3)
+    a.all(|x| float::within(0.0, 1.0, x))
 }
 
 #[tactic(auto, unfolding(crate::specs::Bounce::check_rest, crate::specs::Path::is_power, crate::specs::Path::is_filter, numbers::specs::Refusal::number))]
-pub fn check_rest(path: Path, b: Bounce) -> Check
+pub(crate) fn check_rest(path: Path, b: Bounce) -> Check
     ensures { verdict result ≡ check_rest path b }
 {
     refuse(Refusal::Wavelength, wavelength::is_path_lambda(path.lambda))?;

@@ -4,6 +4,7 @@
 
 pub mod bsdf;
 mod check;
+mod facet;
 pub mod many;
 pub mod plain;
 mod prepared;

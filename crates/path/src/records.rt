@@ -105,18 +105,13 @@ impl Path {
     }
 
     // The path with each power times the weight at its wavelength.
+    #[tactic(auto, unfolding(crate::specs::Path::weighed))]
     pub fn weighed(self, weight: Color) -> Path
         ensures { result ≡ path self.lambda (weighed self.power weight) }
     {
-        let lambda = self.lambda;
         Path {
-            lambda,
-            power: Color {
-                s0: self.power.s0 * weight.s0,
-                s1: self.power.s1 * weight.s1,
-                s2: self.power.s2 * weight.s2,
-                s3: self.power.s3 * weight.s3,
-            },
+            lambda: self.lambda,
+            power: self.power.zip_with(weight, |power, weight| power * weight),
         }
     }
 }

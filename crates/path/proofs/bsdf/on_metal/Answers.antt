@@ -16,12 +16,13 @@ returns-in_default c =
     c.normal-wh.ensures _ c.sample_from.ensures c.in_default.not-Direction))
 
 pub seen_on_metal-seen-requires : goal.seen_on_metal-seen-requires
-seen_on_metal-seen-requires c = (c.is_delta-delta.ensures, c.lambda_unless-lambda_wo.ensures)
+seen_on_metal-seen-requires c = let facet = c.on_metal-facet.ensures in rw (facet.0) facet.1
 
 pub returns : goal.returns
 unfolding outcome
 returns c =
     let spectra = c.m.inside.spectra in
-    rw (← c.m.view_is, c.to_world.ensures, c.density_of.ensures, c.weighed.ensures, c.weights.ensures, c.metal_filter-filter.ensures, c.f_on_metal.ensures, rw (← c.m.view_is) at c.requires.1, f_metal_from_lem spectra.eta spectra.k (medium spectra.outer), c.seen_on_metal-seen.ensures.0, c.seen_on_metal-seen.ensures.1)
+    let facet = c.on_metal-facet.ensures in
+    rw (← c.m.view_is, c.to_world.ensures, c.density_of.ensures, c.weighed.ensures, c.weights.ensures, c.metal_filter-filter.ensures, c.f_on_metal-f.ensures, rw (← c.m.view_is) at c.requires.1, f_metal_from_lem spectra.eta spectra.k (medium spectra.outer), c.seen_on_metal-seen.ensures.0, c.seen_on_metal-seen.ensures.1, facet.0, facet.2, facet.3)
     (sym (metal_sent _ _ c.args.b (rw (← c.m.view_is) at c.requires.0) c.if-b.false _ c.new-uvw.ensures _ c.to_local-wo.ensures _
     c.normal-wh.ensures _ c.sample_from.ensures _ _ c.in-Direction.is))

@@ -1,17 +1,16 @@
--- `path::weight::metal_share` meets its contract: `f != f` is the test for NaN.
+-- `path::weight::metal_share` meets its contract: by its two tests.
 use lib.Ieee.{of_bits}
 use Rattle.path.specs.Bounce.{metal_share}
-use Rattle.floats.proofs.float.FloatBits.{nan_test}
 use Rattle.path.proofs.weight.metal_share.Goals as goal
+
+pub returns-then-is_nan : goal.returns-then-is_nan
+unfolding metal_share of_bits
+returns-then-is_nan c = rw (← c.is_nan.ensures.value, c.if-is_nan.true)
 
 pub returns-then-f : goal.returns-then-f
 unfolding metal_share of_bits
-returns-then-f c = rw (← nan_test, c.if-f.true)
+returns-then-f c = rw (← c.is_nan.ensures.value, c.if-is_nan.false, c.if-f.true)
 
-pub returns-then-f-2 : goal.returns-then-f-2
+pub returns-else-f : goal.returns-else-f
 unfolding metal_share of_bits
-returns-then-f-2 c = rw (← nan_test, c.if-f.false, c.if-f-2.true)
-
-pub returns : goal.returns
-unfolding metal_share of_bits
-returns c = rw (← nan_test, c.if-f.false, c.if-f-2.false)
+returns-else-f c = rw (← c.is_nan.ensures.value, c.if-is_nan.false, c.if-f.false)

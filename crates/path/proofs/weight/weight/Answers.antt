@@ -7,6 +7,6 @@ pub returns-then-wl : goal.returns-then-wl
 unfolding weight of_bits
 returns-then-wl c = rw c.if-wl.true
 
-pub returns : goal.returns
+pub returns-else-wl : goal.returns-else-wl
 unfolding weight of_bits
-returns c = rw c.if-wl.false
+returns-else-wl c = rw c.if-wl.false
