@@ -38,26 +38,27 @@ unfoldable pub sample_normal_pdf_at : Vec2 → Float → Float → Vec3 → Vec3
 sample_normal_pdf_at a lambda_wo wo_dot_wh wh wo =
     max (g1_at lambda_wo wo_dot_wh wo wh ⊗ d a wh ⊗ abs wo_dot_wh ⊘ abs (cos_theta wo)) f0
 
--- ---- from Snell's law, which Fresnel's term and the bend have in common: the index against wo's side, sin² θi and cos θi, by cos θo, which is wo · wh
+-- ---- from Snell's law, which Fresnel's term and the bend have in common: cos θo, which is wo · wh, the index against wo's side, sin² θi and cos θi
 unfoldable pub snell : Float → Float → Snell
-snell cos_o eta = let index = index_from cos_o eta in record { eta = index; sin2 = sin2_i cos_o index; cos = cos_i (sin2_i cos_o index) }
+snell cos_o eta = let index = index_from cos_o eta in record { cos_o = cos_o; eta = index; sin2 = sin2_i cos_o index; cos = cos_i (sin2_i cos_o index) }
 
-unfoldable pub fr_real_from : Snell → Float → Float
-fr_real_from s cos_o = cond (is_total s.sin2) f1 (unpolarized s.eta (abs cos_o) s.cos)
+unfoldable pub fr_real_from : Snell → Float
+fr_real_from s = cond (is_total s.sin2) f1 (unpolarized s.eta (abs s.cos_o) s.cos)
 
-unfoldable pub fresnel_from : Snell → Float → Float → Float → Float
-fresnel_from s cos_o eta k = cond (eq k f0) (cond (eq eta f0) f0 (fr_real_from s cos_o)) (fr_complex cos_o eta k)
+unfoldable pub fresnel_from : Snell → Float → Float → Float
+fresnel_from s eta k = cond (eq k f0) (cond (eq eta f0) f0 (fr_real_from s)) (fr_complex s.cos_o eta k)
 
+-- against the cosine and the normal on wo's side
 unfoldable pub refract_facing_from : Snell → Float → Vec3 → Vec3 → Outgoing
 refract_facing_from s cos_o wo n = cond (is_total s.sin2) total (across_only wo (bent s.eta cos_o s.cos wo n))
 
-unfoldable pub refract_from : Snell → Float → Vec3 → Vec3 → Outgoing
-refract_from s cos_o wo n =
-    cond (lt cos_o f0) (refract_facing_from s (neg cos_o) wo (negate n)) (refract_facing_from s cos_o wo n)
+unfoldable pub refract_from : Snell → Vec3 → Vec3 → Outgoing
+refract_from s wo n =
+    cond (lt s.cos_o f0) (refract_facing_from s (neg s.cos_o) wo (negate n)) (refract_facing_from s s.cos_o wo n)
 
-unfoldable pub dielectric_from_snell : Snell → Float → Float → Float → Vec3 → Vec3 → Scattered
-dielectric_from_snell s cos_o F u wo wh =
-    cond (reflects u F) (branch true (reflect wo wh)) (branch false (refract_from s cos_o wo wh))
+unfoldable pub dielectric_from_snell : Snell → Float → Float → Vec3 → Vec3 → Scattered
+dielectric_from_snell s F u wo wh =
+    cond (reflects u F) (branch true (reflect wo wh)) (branch false (refract_from s wo wh))
 
 -- ---- from the step of the spectra and whether the outer one is constant: the index of glass
 unfoldable pub outer_from : Bool → Float → List Float → Float → Float

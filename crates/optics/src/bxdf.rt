@@ -39,23 +39,23 @@ pub fn reflect(wo: Vec3, n: Vec3) -> Option<Vec3>
 }
 
 // Snell-Descartes law
+#[tactic(auto, using(crate::proofs::SharedTerms::refract_from_lem))]
 pub fn refract(eta: f64, wo: Vec3, n: Vec3) -> Refracted
     ensures { refracted result ≡ refract eta wo n }
 {
-    let cos_to = n.dot(wo);
-    refract_from(Snell::new(cos_to, eta), cos_to, wo, n)
+    refract_from(Snell::new(n.dot(wo), eta), wo, n)
 }
 
-// `refract` with Snell's law and `cos_to`, which is `n.dot(wo)`, at hand.
+// `refract` with Snell's law at hand, of the cosine `n.dot(wo)`.
 #[tactic(auto, unfolding(crate::specs::SharedTerms::refract_from))]
-pub fn refract_from(snell: Snell, cos_to: f64, wo: Vec3, n: Vec3) -> Refracted
-    ensures { refracted result ≡ refract_from snell cos_to wo n }
+pub fn refract_from(snell: Snell, wo: Vec3, n: Vec3) -> Refracted
+    ensures { refracted result ≡ refract_from snell wo n }
 {
     // possibly flip the orientation if we are "inside"; `Snell::new` has turned the index
-    if cos_to < 0.0 {
-        return refract_facing(snell, -cos_to, wo, -n);
+    if snell.cos_o < 0.0 {
+        return refract_facing(snell, -snell.cos_o, wo, -n);
     }
-    refract_facing(snell, cos_to, wo, n)
+    refract_facing(snell, snell.cos_o, wo, n)
 }
 
 // With the cosine and the normal on `wo`'s side.

@@ -8,7 +8,7 @@ ghost use Rattle.optics.specs.Facets.{is_delta, lambda, chi_pass, g1, g, g_over_
 ghost use Rattle.optics.specs.SharedTerms.{azimuth, chi_pass_at, g1_at, g_over_g1_at, sample_normal_pdf_at, snell, fr_real_from, fresnel_from, quotient_from, f_metal_from, f_glass_from};
 ghost use Rattle.optics.specs.Fresnel.{index_from, fr_real, complex_cos_i, r_par, r_per, fr_complex_facing, fr_complex, fresnel, f_at, f};
 ghost use Rattle.optics.specs.Surface.{kind_code, kind_read, medium, eta_from, k_from, eta_at, k_at, quotient, index_on};
-ghost use Rattle.optics.specs.Known.{known_on_glass};
+ghost use Rattle.optics.specs.Known.{reading_on_glass, known_on_glass};
 ghost use Rattle.optics.specs.Sampler.{viewed, tangent, on_hemisphere, combined, unstretched, sample_normal};
 
 use crate::color::Color;
@@ -99,12 +99,44 @@ impl<'a> Model for Microsurface<'a> {
     ghost view = { λ m. microsurface m.surface m.spectra.eta m.spectra.k m.spectra.outer };
 }
 
-// What a call finds of a surface's spectra before it reads them at a wavelength: how far apart their entries are,
-// whether the outer spectrum is constant, and whether eta counts as constant, which takes both.
+// How the spectra of glass are read: how far apart their entries are, and whether the outer one is constant.
 #[derive(Clone, Copy)]
-pub struct Known {
+pub struct Reading {
     pub step: f64,
     pub outer_constant: bool,
+}
+
+impl Reading {
+    #[tactic(auto, unfolding(crate::specs::Known::reading_on_glass))]
+    pub fn on_glass(spectra: &Spectra<'_>) -> Reading
+        ensures { result ≡ reading_on_glass spectra.now.eta spectra.now.outer }
+    {
+        Reading {
+            step: DenseSpectrum::step(spectra.eta),
+            outer_constant: DenseSpectrum::is_constant(spectra.outer),
+        }
+    }
+
+    // The index and k at one wavelength, from its one place among the grid points.
+    pub fn constants_at(self, spectra: &Spectra<'_>, wl: f64) -> OpticalConstants
+        ensures { (result.eta ≡ quotient_from self.outer_constant self.step spectra.now.eta spectra.now.outer wl) × (result.k ≡ k_from self.step spectra.now.k wl) }
+    {
+        let point = GridPoint::new(self.step, wl);
+        let inner = DenseSpectrum::sample_from(spectra.eta, point);
+        let k = DenseSpectrum::sample_from(spectra.k, point);
+        let outer = outer_at(self.outer_constant, spectra.outer, point);
+        OpticalConstants {
+            eta: quotient(wl, inner, outer),
+            k,
+        }
+    }
+}
+
+// What a call finds of a surface's spectra before it reads them at a wavelength: how they are read, and whether eta
+// counts as constant, for which the outer spectrum has to be constant too.
+#[derive(Clone, Copy)]
+pub struct Known {
+    pub reading: Reading,
     pub eta_constant: bool,
 }
 
@@ -112,11 +144,10 @@ impl Known {
     pub fn on_glass(spectra: &Spectra<'_>) -> Known
         ensures { result ≡ known_on_glass spectra.now.eta spectra.now.outer }
     {
-        let outer_constant = DenseSpectrum::is_constant(spectra.outer);
+        let reading = Reading::on_glass(spectra);
         Known {
-            step: DenseSpectrum::step(spectra.eta),
-            outer_constant,
-            eta_constant: DenseSpectrum::is_constant(spectra.eta) & outer_constant,
+            reading,
+            eta_constant: DenseSpectrum::is_constant(spectra.eta) & reading.outer_constant,
         }
     }
 }
@@ -143,37 +174,43 @@ pub struct OpticalConstants {
     pub k: f64,
 }
 
+impl OpticalConstants {
+    // Fresnel term with the full equations, `cos_o` being `wo.dot(wh)`.
+    #[tactic(auto, unfolding(crate::specs::Fresnel::fresnel))]
+    pub fn fresnel(self, cos_o: f64) -> f64
+        ensures { result ≡ fresnel cos_o self.eta self.k }
+    {
+        if self.k == 0.0 {
+            if self.eta == 0.0 {
+                return 0.0;
+            }
+            return fr_real(cos_o, self.eta);
+        }
+        fr_complex(cos_o, self.eta, self.k)
+    }
+
+    // `fresnel` with Snell's law at hand, for a caller that bends light by it too.
+    #[tactic(auto, unfolding(crate::specs::SharedTerms::fresnel_from))]
+    pub fn fresnel_from(self, snell: Snell) -> f64
+        ensures { result ≡ fresnel_from snell self.eta self.k }
+    {
+        if self.k == 0.0 {
+            if self.eta == 0.0 {
+                return 0.0;
+            }
+            return snell.fr_real();
+        }
+        fr_complex(snell.cos_o, self.eta, self.k)
+    }
+}
+
 // Both at one wavelength.
 pub fn optical_constants(kind: Kind, spectra: &Spectra<'_>, wl: f64) -> OpticalConstants
     ensures { (result.eta ≡ index_on kind spectra.now.eta (medium spectra.now.outer) wl) × (result.k ≡ k_at spectra.now.eta spectra.now.k wl) }
 {
-    let step = DenseSpectrum::step(spectra.eta);
     match kind {
-        Kind::Metal => metal_constants_at(step, spectra, wl),
-        Kind::Glass => {
-            let outer_constant = DenseSpectrum::is_constant(spectra.outer);
-            glass_constants_at(outer_constant, step, spectra, wl)
-        }
-    }
-}
-
-// On glass, with `step` and whether the outer spectrum is constant at hand, from the wavelength's one place among
-// the grid points.
-pub fn glass_constants_at(
-    outer_constant: bool,
-    step: f64,
-    spectra: &Spectra<'_>,
-    wl: f64,
-) -> OpticalConstants
-    ensures { (result.eta ≡ quotient_from outer_constant step spectra.now.eta spectra.now.outer wl) × (result.k ≡ k_from step spectra.now.k wl) }
-{
-    let point = GridPoint::new(step, wl);
-    let inner = DenseSpectrum::sample_from(spectra.eta, point);
-    let k = DenseSpectrum::sample_from(spectra.k, point);
-    let outer = spectra.outer;
-    OpticalConstants {
-        eta: quotient(wl, inner, outer_at(outer_constant, outer, point)),
-        k,
+        Kind::Metal => metal_constants_at(DenseSpectrum::step(spectra.eta), spectra, wl),
+        Kind::Glass => Reading::on_glass(spectra).constants_at(spectra, wl),
     }
 }
 
@@ -297,17 +334,6 @@ impl Ggx {
         (sqrt_or_zero(1.0 + alpha2 * tan2_theta) - 1.0) / 2.0
     }
 
-    // Λ(wo), for who hands it on: 0 where the surface scatters into one direction, since nothing reads it
-    // there.
-    pub fn lambda_unless(self, one_direction: bool, wo: Vec3) -> f64
-        ensures { result ≡ cond one_direction f0 (lambda self.roughness wo) }
-    {
-        if one_direction {
-            return 0.0;
-        }
-        self.lambda(wo)
-    }
-
     // Shadow-masking term. Used to make sure that only microfacets that are visible from `wo`
     // direction are considered. Uses the method described in Chapter 8.4.3 of PBR due to
     // Heitz et al. 2013.
@@ -333,38 +359,14 @@ impl Ggx {
     pub fn g_over_g1(self, wo: Vec3, wi: Vec3, wh: Vec3) -> f64
         ensures { result ≡ g_over_g1 self.roughness wo wi wh }
     {
-        self.g_over_g1_at(self.lambda(wo), wo.dot(wh), wo, wi, wh)
-    }
-
-    // `g_over_g1` with Λ(wo) and `wo_dot_wh` at hand.
-    pub fn g_over_g1_at(self, lambda_wo: f64, wo_dot_wh: f64, wo: Vec3, wi: Vec3, wh: Vec3) -> f64
-        ensures { result ≡ g_over_g1_at self.roughness lambda_wo wo_dot_wh wo wi wh }
-    {
-        if chi_pass_at(wo_dot_wh, wo, wh) {
-            let seen = 1.0 + lambda_wo;
-            let g1 = 1.0 / seen;
-            if g1 == 0.0 {
-                return 0.0;
-            }
-            return 1.0 / (seen + self.lambda(wi)) / g1;
-        }
-        0.0
+        View::new(self, false, wo).g_over_g1(wo.dot(wh), wi, wh)
     }
 
     // Probability that `wh` got sampled. `wh` and `wo` in shading space.
     pub fn sample_normal_pdf(self, wh: Vec3, wo: Vec3) -> f64
         ensures { result ≡ sample_normal_pdf self.roughness wh wo }
     {
-        self.sample_normal_pdf_at(self.lambda(wo), wo.dot(wh), wh, wo)
-    }
-
-    // `sample_normal_pdf` with Λ(wo) and `wo_dot_wh` at hand.
-    pub fn sample_normal_pdf_at(self, lambda_wo: f64, wo_dot_wh: f64, wh: Vec3, wo: Vec3) -> f64
-        ensures { result ≡ sample_normal_pdf_at self.roughness lambda_wo wo_dot_wh wh wo }
-    {
-        let g1 = g1_at(lambda_wo, wo_dot_wh, wo, wh);
-        let d = self.d(wh);
-        float::max(g1 * d * float::abs(wo_dot_wh) / float::abs(wo.z), 0.0)
+        View::new(self, false, wo).sample_normal_pdf(wo.dot(wh), wh)
     }
 
     // `wo` in the hemisphere's configuration, on the side of the geometric normal.
@@ -411,6 +413,66 @@ impl Ggx {
         let u = tangent(v);
         // move back to ellipsoid
         self.unstretched(combined(u, v, wm))
+    }
+}
+
+// The facets as `wo` sees them: Λ(wo), two roots, is worked once for all that read it. Where the surface scatters into
+// one direction nothing does, and it is 0.
+#[derive(Clone, Copy)]
+pub struct View {
+    pub mfd: Ggx,
+    pub wo: Vec3,
+    pub one_direction: bool,
+    pub lambda_wo: f64,
+    pub ghost lambda_is: { lambda_wo ≡ cond one_direction f0 (lambda mfd.roughness wo) },
+}
+
+impl View {
+    pub fn new(mfd: Ggx, one_direction: bool, wo: Vec3) -> View
+        ensures { (result.mfd ≡ mfd) × (result.wo ≡ wo) × (result.one_direction ≡ one_direction) }
+    {
+        View {
+            mfd,
+            wo,
+            one_direction,
+            lambda_wo: if one_direction { 0.0 } else { mfd.lambda(wo) },
+        }
+    }
+
+    // `g` over `g1`, with `wo_dot_wh` at hand.
+    pub fn g_over_g1(self, wo_dot_wh: f64, wi: Vec3, wh: Vec3) -> f64
+        ensures { result ≡ g_over_g1_at self.mfd.roughness self.lambda_wo wo_dot_wh self.wo wi wh }
+    {
+        if chi_pass_at(wo_dot_wh, self.wo, wh) {
+            let seen = 1.0 + self.lambda_wo;
+            let g1 = 1.0 / seen;
+            if g1 == 0.0 {
+                return 0.0;
+            }
+            return 1.0 / (seen + self.mfd.lambda(wi)) / g1;
+        }
+        0.0
+    }
+
+    #[tactic(auto, unfolding(crate::specs::SharedTerms::g1_at, crate::specs::Facets::masked))]
+    fn g1(self, wo_dot_wh: f64, wh: Vec3) -> f64
+        ensures { result ≡ g1_at self.lambda_wo wo_dot_wh self.wo wh }
+    {
+        if chi_pass_at(wo_dot_wh, self.wo, wh) {
+            return 1.0 / (1.0 + self.lambda_wo);
+        }
+        0.0
+    }
+
+    // Probability that `wh` got sampled, with `wo_dot_wh` at hand. Inlined: a call would store the view, and wait for it.
+    #[inline(always)]
+    #[tactic(auto, unfolding(crate::specs::SharedTerms::sample_normal_pdf_at, numbers::specs::SphericalUtils::cos_theta))]
+    pub fn sample_normal_pdf(self, wo_dot_wh: f64, wh: Vec3) -> f64
+        ensures { result ≡ sample_normal_pdf_at self.mfd.roughness self.lambda_wo wo_dot_wh wh self.wo }
+    {
+        let g1 = self.g1(wo_dot_wh, wh);
+        let d = self.mfd.d(wh);
+        float::max(g1 * d * float::abs(wo_dot_wh) / float::abs(self.wo.z), 0.0)
     }
 }
 
@@ -464,48 +526,23 @@ fn chi_pass_at(wo_dot_wh: f64, wo: Vec3, wh: Vec3) -> bool
     chi > EPSILON
 }
 
-// `g1` with Λ(wo) and `wo_dot_wh` at hand.
-fn g1_at(lambda_wo: f64, wo_dot_wh: f64, wo: Vec3, wh: Vec3) -> f64
-    ensures { result ≡ g1_at lambda_wo wo_dot_wh wo wh }
-{
-    if chi_pass_at(wo_dot_wh, wo, wh) {
-        return 1.0 / (1.0 + lambda_wo);
-    }
-    0.0
-}
-
 // Fresnel term with the full equations, at four wavelengths
 pub fn f(kind: Kind, spectra: &Spectra<'_>, wo: Vec3, wh: Vec3, lambda: Color) -> Color
     ensures { result ≡ f kind spectra.now.eta spectra.now.k (medium spectra.now.outer) wo wh lambda }
 {
-    let step = DenseSpectrum::step(spectra.eta);
     match kind {
-        Kind::Metal => f_on_metal(step, spectra, wo, wh, lambda),
-        Kind::Glass => {
-            let outer_constant = DenseSpectrum::is_constant(spectra.outer);
-            f_on_glass(outer_constant, step, spectra, wo, wh, lambda)
-        }
+        Kind::Metal => f_on_metal(DenseSpectrum::step(spectra.eta), spectra, wo, wh, lambda),
+        Kind::Glass => f_on_glass(Reading::on_glass(spectra), spectra, wo, wh, lambda),
     }
 }
 
-// On glass, with `step` and whether the outer spectrum is constant at hand.
 #[tactic(auto, unfolding(crate::specs::SharedTerms::f_glass_from, crate::specs::Fresnel::f_at))]
-fn f_on_glass(
-    outer_constant: bool,
-    step: f64,
-    spectra: &Spectra<'_>,
-    wo: Vec3,
-    wh: Vec3,
-    lambda: Color,
-) -> Color
-    ensures { result ≡ f_glass_from outer_constant step spectra.now.eta spectra.now.k spectra.now.outer wo wh lambda }
+fn f_on_glass(reading: Reading, spectra: &Spectra<'_>, wo: Vec3, wh: Vec3, lambda: Color) -> Color
+    ensures { result ≡ f_glass_from reading.outer_constant reading.step spectra.now.eta spectra.now.k spectra.now.outer wo wh lambda }
 {
     let cos_o = wo.dot(wh);
     // `move`, so that the closure holds the numbers and reads none of them through a reference
-    lambda.map(move |wl| {
-        let at = glass_constants_at(outer_constant, step, spectra, wl);
-        fresnel(cos_o, at.eta, at.k)
-    })
+    lambda.map(move |wl| reading.constants_at(spectra, wl).fresnel(cos_o))
 }
 
 // On metal, with `step` at hand.
@@ -514,43 +551,15 @@ pub fn f_on_metal(step: f64, spectra: &Spectra<'_>, wo: Vec3, wh: Vec3, lambda: 
     ensures { result ≡ f_metal_from step spectra.now.eta spectra.now.k wo wh lambda }
 {
     let cos_o = wo.dot(wh);
-    lambda.map(move |wl| {
-        let at = metal_constants_at(step, spectra, wl);
-        fresnel(cos_o, at.eta, at.k)
-    })
+    lambda.map(move |wl| metal_constants_at(step, spectra, wl).fresnel(cos_o))
 }
 
 // Fresnel term with the full equations, at one wavelength, whose index is `eta` and absorption `k`.
+#[tactic(auto, unfolding(crate::specs::Fresnel::f_at))]
 pub fn f_at(wo: Vec3, wh: Vec3, eta: f64, k: f64) -> f64
     ensures { result ≡ f_at wo wh eta k }
 {
-    fresnel(wo.dot(wh), eta, k)
-}
-
-// `f_at` with `cos_o`, which is `wo.dot(wh)`, at hand.
-pub fn fresnel(cos_o: f64, eta: f64, k: f64) -> f64
-    ensures { result ≡ fresnel cos_o eta k }
-{
-    if k == 0.0 {
-        if eta == 0.0 {
-            return 0.0;
-        }
-        return fr_real(cos_o, eta);
-    }
-    fr_complex(cos_o, eta, k)
-}
-
-// `fresnel` with Snell's law at hand, for a caller that bends light by it too.
-pub fn fresnel_from(snell: Snell, cos_o: f64, eta: f64, k: f64) -> f64
-    ensures { result ≡ fresnel_from snell cos_o eta k }
-{
-    if k == 0.0 {
-        if eta == 0.0 {
-            return 0.0;
-        }
-        return fr_real_from(snell, cos_o);
-    }
-    fr_complex(cos_o, eta, k)
+    OpticalConstants { eta, k }.fresnel(wo.dot(wh))
 }
 
 pub fn fr_complex(cos_o: f64, eta: f64, k: f64) -> f64
@@ -595,36 +604,18 @@ fn r_per(cos_o: f64, eta: Complex, cos_i: Complex) -> Complex
     (cos_o - i) / (cos_o + i)
 }
 
+#[tactic(auto, using(crate::proofs::SharedTerms::fr_real_from_lem))]
 pub fn fr_real(cos_o: f64, eta: f64) -> f64
     ensures { result ≡ fr_real cos_o eta }
 {
-    fr_real_from(Snell::new(cos_o, eta), cos_o)
+    Snell::new(cos_o, eta).fr_real()
 }
 
-// `fr_real` with Snell's law at hand.
-fn fr_real_from(snell: Snell, cos_o: f64) -> f64
-    ensures { result ≡ fr_real_from snell cos_o }
-{
-    // total internal reflection
-    if snell.sin2 >= 1.0 {
-        return 1.0;
-    }
-
-    let cos_o = float::abs(cos_o);
-    let cos_i = snell.cos;
-    let o = snell.eta * cos_o;
-    let i = snell.eta * cos_i;
-
-    let r_par = (o - cos_i) / (o + cos_i);
-    let r_per = (cos_o - i) / (cos_o + i);
-
-    (r_par * r_par + r_per * r_per) / 2.0
-}
-
-// Snell's law at a facet, sin θo = η sin θi: the index against the side that light comes from, the sine's
-// square beyond the facet, and the cosine there. Both Fresnel's term and the bend read it.
+// Snell's law at a facet, sin θo = η sin θi: the cosine on the side that light comes from, the index against that
+// side, the sine's square beyond the facet, and the cosine there. Both Fresnel's term and the bend read it.
 #[derive(Clone, Copy)]
 pub struct Snell {
+    pub cos_o: f64,
     pub eta: f64,
     pub sin2: f64,
     pub cos: f64,
@@ -633,16 +624,39 @@ pub struct Snell {
 impl Snell {
     // `eta` is the surface's index. At total internal reflection the sine's square is 1 or more, and no
     // root is worked.
+    #[tactic(auto, unfolding(crate::specs::SharedTerms::snell, crate::specs::Fresnel::sin2_i, crate::specs::Fresnel::cos_i))]
     pub fn new(cos_o: f64, eta: f64) -> Snell
         ensures { result ≡ snell cos_o eta }
     {
         let eta = index_from(cos_o, eta);
         let sin2 = (1.0 - cos_o * cos_o) / (eta * eta);
         Snell {
+            cos_o,
             eta,
             sin2,
             cos: sqrt_or_zero(1.0 - sin2),
         }
+    }
+
+    // Fresnel term of a real index.
+    #[tactic(auto, unfolding(crate::specs::SharedTerms::fr_real_from, crate::specs::Fresnel::is_total))]
+    fn fr_real(self) -> f64
+        ensures { result ≡ fr_real_from self }
+    {
+        // total internal reflection
+        if self.sin2 >= 1.0 {
+            return 1.0;
+        }
+
+        let cos_o = float::abs(self.cos_o);
+        let cos_i = self.cos;
+        let o = self.eta * cos_o;
+        let i = self.eta * cos_i;
+
+        let r_par = (o - cos_i) / (o + cos_i);
+        let r_per = (cos_o - i) / (cos_o + i);
+
+        (r_par * r_par + r_per * r_per) / 2.0
     }
 }
 

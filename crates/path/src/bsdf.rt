@@ -94,7 +94,7 @@ fn on_glass(known: Known, path: Path, m: &Microsurface<'_>, b: Bounce) -> Bounce
     let left = Path { lambda, power };
 
     let leading = wavelength::leading_sample(lambda);
-    let at = microfacet::glass_constants_at(known.outer_constant, known.step, &m.spectra, leading);
+    let at = known.reading.constants_at(&m.spectra, leading);
 
     let uvw = Onb::new(b.normal);
     let wo = uvw.to_local(b.wo);
@@ -104,16 +104,14 @@ fn on_glass(known: Known, path: Path, m: &Microsurface<'_>, b: Bounce) -> Bounce
     // the roots of Λ(wo) wait for no other: they are worked while those of the normal are waited for
     let facet = Facet::on_glass(mfd, at.eta, wo, wh);
     // the share that is reflected and the bend read the same root, that of Snell's law
-    let cos_o = facet.wo_dot_wh;
-    let snell = Snell::new(cos_o, at.eta);
-    let f = microfacet::fresnel_from(snell, cos_o, at.eta, at.k);
+    let snell = Snell::new(facet.wo_dot_wh, at.eta);
+    let f = at.fresnel_from(snell);
     let shares = Some(Shares {
         reflected: f,
         passed: 1.0 - f,
     });
-    let Sampled::Direction { wi, reflection } = dielectric::sample_from(
-        snell, cos_o, wo, wh, f, b.u,
-    ) else {
+    let Sampled::Direction { wi, reflection } = dielectric::sample_from(snell, wo, wh, f, b.u)
+    else {
         return lost(left, shares);
     };
 

@@ -1,14 +1,12 @@
 // Microfacet conductor.
 ghost use Rattle.std.specs.Prelude.{◌≡◌};
 ghost use Rattle.optics.specs.Bxdf.{sampled, conductor_normal, conductor_from, conductor_sample};
-ghost use Rattle.numbers.specs.Vec3.{dot};
-ghost use Rattle.optics.specs.Facets.{is_delta};
+ghost use Rattle.optics.specs.Facets.{sample_normal_pdf};
 ghost use Rattle.optics.specs.Density.{conductor_half, conductor_pdf_from, conductor_pdf};
-ghost use Rattle.optics.specs.SharedTerms.{sample_normal_pdf_at};
 
 use crate::bxdf;
 use crate::bxdf::Sampled;
-use crate::microfacet::Ggx;
+use crate::microfacet::{Ggx, View};
 use floats::float;
 use numbers::spherical_utils;
 use numbers::vec3::Vec3;
@@ -53,11 +51,11 @@ pub fn sample(wo: Vec3, mfd: Ggx, disk: f64, c: f64, s: f64) -> Sampled
     sample_from(wo, mfd, normal(wo, mfd, disk, c, s))
 }
 
+#[tactic(auto, unfolding(crate::specs::Density::conductor_pdf))]
 pub fn pdf(wo: Vec3, wi: Vec3, mfd: Ggx) -> f64
     ensures { result ≡ conductor_pdf mfd.roughness wo wi }
 {
-    let lambda_wo = mfd.lambda_unless(mfd.is_delta(), wo);
-    pdf_at(lambda_wo, wo, wi, half(wo, wi), mfd)
+    pdf_at(View::new(mfd, mfd.is_delta(), wo), wi, half(wo, wi))
 }
 
 // The normal that takes `wo` to `wi`.
@@ -68,18 +66,18 @@ pub fn half(wo: Vec3, wi: Vec3) -> Vec3
     bxdf::on_z_side((wo + wi).normalize())
 }
 
-// `pdf` with Λ(wo) and the normal that takes `wo` to `wi` at hand.
-pub fn pdf_at(lambda_wo: f64, wo: Vec3, wi: Vec3, wh: Vec3, mfd: Ggx) -> f64
-    ensures { result ≡ conductor_pdf_from (sample_normal_pdf_at mfd.roughness lambda_wo (dot wo wh) wh wo) (is_delta mfd.roughness) wo wi wh }
+// `pdf` with the normal that takes `wo` to `wi` at hand.
+#[tactic(auto, unfolding(crate::specs::Density::conductor_pdf_from))]
+pub fn pdf_at(view: View, wi: Vec3, wh: Vec3) -> f64
+    ensures { result ≡ conductor_pdf_from (sample_normal_pdf view.mfd.roughness wh view.wo) view.one_direction view.wo wi wh }
 {
     // check if in same hemisphere or perpendicular to normal
-    if spherical_utils::same_hemisphere(wi, wo) {
-        if mfd.is_delta() {
+    if spherical_utils::same_hemisphere(wi, view.wo) {
+        if view.one_direction {
             return bxdf::at_z(wh, 1.0);
         }
-        let wh_dot_wo = wo.dot(wh);
-        return mfd.sample_normal_pdf_at(lambda_wo, wh_dot_wo, wh, wo)
-            / (4.0 * float::abs(wh_dot_wo));
+        let wh_dot_wo = view.wo.dot(wh);
+        return view.sample_normal_pdf(wh_dot_wo, wh) / (4.0 * float::abs(wh_dot_wo));
     }
     0.0
 }

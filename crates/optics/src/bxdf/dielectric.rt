@@ -3,12 +3,13 @@ ghost use Rattle.std.specs.Prelude.{◌≡◌, cond};
 ghost use Rattle.floats.specs.Float.{f0};
 ghost use Rattle.optics.specs.Bxdf.{sampled, is_smooth, reflects, dielectric_normal, dielectric_sample};
 ghost use Rattle.numbers.specs.Vec3.{dot};
+ghost use Rattle.optics.specs.Facets.{sample_normal_pdf};
 ghost use Rattle.optics.specs.Density.{eta_ratio, dielectric_half, is_discarded, reflected_pdf, passed_pdf, dielectric_pdf_from, dielectric_pdf};
-ghost use Rattle.optics.specs.SharedTerms.{sample_normal_pdf_at, dielectric_from_snell};
+ghost use Rattle.optics.specs.SharedTerms.{dielectric_from_snell};
 
+use crate::bxdf;
 use crate::bxdf::{Refracted, Sampled};
-use crate::microfacet::{Ggx, Snell};
-use crate::{bxdf, microfacet};
+use crate::microfacet::{Ggx, OpticalConstants, Snell, View};
 use floats::float;
 use numbers::vec3::Vec3;
 
@@ -39,16 +40,9 @@ fn reflects(rand_u: f64, pr: f64) -> bool
 }
 
 // The direction that the facet's normal `wh` sends on, `pr` being the share that is reflected, with
-// Snell's law and `wo_dot_wh` at hand.
-pub fn sample_from(
-    snell: Snell,
-    wo_dot_wh: f64,
-    wo: Vec3,
-    wh: Vec3,
-    pr: f64,
-    rand_u: f64,
-) -> Sampled
-    ensures { sampled result ≡ dielectric_from_snell snell wo_dot_wh pr rand_u wo wh }
+// Snell's law at hand, of the cosine `wo.dot(wh)`.
+pub fn sample_from(snell: Snell, wo: Vec3, wh: Vec3, pr: f64, rand_u: f64) -> Sampled
+    ensures { sampled result ≡ dielectric_from_snell snell pr rand_u wo wh }
 {
     if reflects(rand_u, pr) {
         return match bxdf::reflect(wo, wh) {
@@ -59,7 +53,7 @@ pub fn sample_from(
             None => Sampled::None,
         };
     }
-    match bxdf::refract_from(snell, wo_dot_wh, wo, wh) {
+    match bxdf::refract_from(snell, wo, wh) {
         Refracted::Direction(wi) => Sampled::Direction {
             wi,
             reflection: false,
@@ -83,19 +77,19 @@ pub fn sample(
     ensures { sampled result ≡ dielectric_sample mfd.roughness eta k wo rand_u disk c s }
 {
     let wh = normal(wo, mfd, eta, disk, c, s);
-    let wo_dot_wh = wo.dot(wh);
-    let snell = Snell::new(wo_dot_wh, eta);
-    let pr = microfacet::fresnel_from(snell, wo_dot_wh, eta, k);
-    sample_from(snell, wo_dot_wh, wo, wh, pr, rand_u)
+    let snell = Snell::new(wo.dot(wh), eta);
+    let pr = OpticalConstants { eta, k }.fresnel_from(snell);
+    sample_from(snell, wo, wh, pr, rand_u)
 }
 
+#[tactic(auto, unfolding(crate::specs::Density::dielectric_pdf))]
 pub fn pdf(wo: Vec3, wi: Vec3, reflection: bool, mfd: Ggx, eta: f64, k: f64) -> f64
     ensures { result ≡ dielectric_pdf mfd.roughness eta k reflection wo wi }
 {
-    let lambda_wo = mfd.lambda_unless(is_smooth(mfd, eta), wo);
+    let view = View::new(mfd, is_smooth(mfd, eta), wo);
     let ratio = eta_ratio(reflection, wo, eta);
     let wh = half(eta, ratio, wo, wi);
-    pdf_at(lambda_wo, wo, wi, wh, reflection, mfd, eta, k, ratio)
+    pdf_at(view, wi, wh, reflection, OpticalConstants { eta, k }, ratio)
 }
 
 // The index from `wo`'s side to `wi`'s: 1 for a reflection.
@@ -122,101 +116,104 @@ pub fn half(eta: f64, ratio: f64, wo: Vec3, wi: Vec3) -> Vec3
     bxdf::on_z_side((wo + wi * ratio).normalize())
 }
 
-// `pdf` with Λ(wo), the index and the normal that takes `wo` to `wi` at hand.
+// `pdf` with the index from `wo`'s side to `wi`'s and the normal that takes `wo` to `wi` at hand.
 pub fn pdf_at(
-    lambda_wo: f64,
-    wo: Vec3,
+    view: View,
     wi: Vec3,
     wh: Vec3,
     reflection: bool,
-    mfd: Ggx,
-    eta: f64,
-    k: f64,
+    at: OpticalConstants,
     ratio: f64,
 ) -> f64
-    ensures { result ≡ dielectric_pdf_from (sample_normal_pdf_at mfd.roughness lambda_wo (dot wo wh) wh wo) (is_smooth mfd.roughness eta) eta k ratio reflection wo wi wh }
+    ensures { result ≡ dielectric_pdf_from (sample_normal_pdf view.mfd.roughness wh view.wo) view.one_direction at.eta at.k ratio reflection view.wo wi wh }
 {
-    let wh_dot_wo = wo.dot(wh);
-    let wh_dot_wi = wi.dot(wh);
-    if is_discarded(wh_dot_wo, wh_dot_wi, wo, wi) {
+    let facet = Facet::new(view, wi, wh);
+    if facet.is_discarded() {
         return 0.0;
     }
     // the root of the normal's density stands before that of the share: more waits for it
-    let smooth = is_smooth(mfd, eta);
-    let normal_pdf = normal_pdf_unless(smooth, lambda_wo, wh_dot_wo, wo, wh, mfd);
-    let pr = microfacet::fresnel(wh_dot_wo, eta, k);
+    let normal_pdf = facet.normal_pdf();
+    let pr = at.fresnel(facet.wh_dot_wo);
     if reflection {
-        return reflected_pdf(normal_pdf, smooth, pr, wh_dot_wo, wo, wh);
+        return facet.reflected_pdf(normal_pdf, pr);
     }
-    passed_pdf(
-        normal_pdf, smooth, ratio, pr, wh_dot_wo, wh_dot_wi, wo, wi, wh,
-    )
+    facet.passed_pdf(normal_pdf, pr, ratio)
 }
 
-// The density of the facet's normal: 0 where the glass is smooth, since nothing reads it there.
-fn normal_pdf_unless(
-    smooth: bool,
-    lambda_wo: f64,
-    wh_dot_wo: f64,
-    wo: Vec3,
-    wh: Vec3,
-    mfd: Ggx,
-) -> f64
-    ensures { result ≡ cond smooth f0 (sample_normal_pdf_at mfd.roughness lambda_wo wh_dot_wo wh wo) }
-{
-    if smooth {
-        return 0.0;
-    }
-    mfd.sample_normal_pdf_at(lambda_wo, wh_dot_wo, wh, wo)
-}
-
-// A facet along `wo` or `wi`, or a backfacing one.
-fn is_discarded(wh_dot_wo: f64, wh_dot_wi: f64, wo: Vec3, wi: Vec3) -> bool
-    ensures { result ≡ is_discarded wh_dot_wo wh_dot_wi wo wi }
-{
-    if wh_dot_wo == 0.0 {
-        return true;
-    }
-    if wh_dot_wi == 0.0 {
-        return true;
-    }
-    if wh_dot_wo * wo.z < 0.0 {
-        return true;
-    }
-    wh_dot_wi * wi.z < 0.0
-}
-
-// Reflection, `pr` being its share.
-fn reflected_pdf(normal_pdf: f64, smooth: bool, pr: f64, wh_dot_wo: f64, wo: Vec3, wh: Vec3) -> f64
-    requires { wh_dot_wo ≡ dot wo wh }
-    ensures { result ≡ reflected_pdf normal_pdf smooth pr wo wh }
-{
-    let pt = 1.0 - pr;
-    if smooth {
-        return bxdf::at_z(wh, pr / (pr + pt));
-    }
-    normal_pdf / (4.0 * float::abs(wh_dot_wo)) * pr / (pr + pt)
-}
-
-// Transmission, `1.0 - pr` being its share.
-fn passed_pdf(
-    normal_pdf: f64,
-    smooth: bool,
-    ratio: f64,
-    pr: f64,
-    wh_dot_wo: f64,
-    wh_dot_wi: f64,
-    wo: Vec3,
+// A facet that takes `view.wo` to `wi`, by its normal, with both cosines at hand.
+#[derive(Clone, Copy)]
+struct Facet {
+    view: View,
     wi: Vec3,
     wh: Vec3,
-) -> f64
-    requires { (wh_dot_wo ≡ dot wo wh) × (wh_dot_wi ≡ dot wi wh) }
-    ensures { result ≡ passed_pdf normal_pdf smooth ratio pr wo wi wh }
-{
-    let pt = 1.0 - pr;
-    if smooth {
-        return bxdf::at_z(wh, pt / (pr + pt));
+    wh_dot_wo: f64,
+    wh_dot_wi: f64,
+    ghost cos_wo: { wh_dot_wo ≡ dot view.wo wh },
+    ghost cos_wi: { wh_dot_wi ≡ dot wi wh },
+}
+
+impl Facet {
+    fn new(view: View, wi: Vec3, wh: Vec3) -> Facet
+        ensures { (result.view ≡ view) × (result.wi ≡ wi) × (result.wh ≡ wh) }
+    {
+        Facet {
+            view,
+            wi,
+            wh,
+            wh_dot_wo: view.wo.dot(wh),
+            wh_dot_wi: wi.dot(wh),
+        }
     }
-    let root = wh_dot_wi + wh_dot_wo / ratio;
-    normal_pdf * float::abs(wh_dot_wi) / (root * root) * pt / (pr + pt)
+
+    // A facet along `wo` or `wi`, or a backfacing one.
+    #[tactic(auto, unfolding(crate::specs::Density::is_discarded, numbers::specs::SphericalUtils::cos_theta))]
+    fn is_discarded(self) -> bool
+        ensures { result ≡ is_discarded self.wh_dot_wo self.wh_dot_wi self.view.wo self.wi }
+    {
+        if self.wh_dot_wo == 0.0 {
+            return true;
+        }
+        if self.wh_dot_wi == 0.0 {
+            return true;
+        }
+        if self.wh_dot_wo * self.view.wo.z < 0.0 {
+            return true;
+        }
+        self.wh_dot_wi * self.wi.z < 0.0
+    }
+
+    // The density of the facet's normal: 0 where the glass is smooth, since nothing reads it there.
+    fn normal_pdf(self) -> f64
+        ensures { result ≡ cond self.view.one_direction f0 (sample_normal_pdf self.view.mfd.roughness self.wh self.view.wo) }
+    {
+        if self.view.one_direction {
+            return 0.0;
+        }
+        self.view.sample_normal_pdf(self.wh_dot_wo, self.wh)
+    }
+
+    // Reflection, `pr` being its share.
+    #[tactic(auto, unfolding(crate::specs::Density::reflected_pdf, crate::specs::Density::mirrored_pdf, crate::specs::Bxdf::rest))]
+    fn reflected_pdf(self, normal_pdf: f64, pr: f64) -> f64
+        ensures { result ≡ reflected_pdf normal_pdf self.view.one_direction pr self.view.wo self.wh }
+    {
+        let pt = 1.0 - pr;
+        if self.view.one_direction {
+            return bxdf::at_z(self.wh, pr / (pr + pt));
+        }
+        normal_pdf / (4.0 * float::abs(self.wh_dot_wo)) * pr / (pr + pt)
+    }
+
+    // Transmission, `1.0 - pr` being its share.
+    #[tactic(auto, unfolding(crate::specs::Density::passed_pdf, crate::specs::Density::bent_pdf, crate::specs::Bxdf::rest, floats::specs::Float::powi2))]
+    fn passed_pdf(self, normal_pdf: f64, pr: f64, ratio: f64) -> f64
+        ensures { result ≡ passed_pdf normal_pdf self.view.one_direction ratio pr self.view.wo self.wi self.wh }
+    {
+        let pt = 1.0 - pr;
+        if self.view.one_direction {
+            return bxdf::at_z(self.wh, pt / (pr + pt));
+        }
+        let root = self.wh_dot_wi + self.wh_dot_wo / ratio;
+        normal_pdf * float::abs(self.wh_dot_wi) / (root * root) * pt / (pr + pt)
+    }
 }

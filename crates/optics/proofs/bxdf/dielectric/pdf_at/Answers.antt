@@ -1,22 +1,29 @@
 -- `optics::bxdf::dielectric::pdf_at` meets its contract: the calls give what their contracts promise, and the definition is read in the same order.
 -- Smooth glass doesn't read the density of the normal, by `normal_unread`.
+use lib.Ieee.{of_bits}
 use Rattle.floats.specs.Float.{f0}
 use Rattle.optics.specs.Density.{dielectric_pdf_from}
 use Rattle.optics.specs.Fresnel.{f_at}
 use Rattle.optics.proofs.SharedTerms.{normal_unread}
-use lib.Ieee.{of_bits}
 use Rattle.optics.proofs.bxdf.dielectric.pdf_at.Goals as goal
 
 pub returns-then-is_discarded : goal.returns-then-is_discarded
 unfolding dielectric_pdf_from of_bits
-returns-then-is_discarded c = rw (← c.dot-wh_dot_wo.ensures, ← c.dot-wh_dot_wi.ensures, ← c.is_discarded.ensures, c.if-is_discarded.true)
+returns-then-is_discarded c =
+    let facet = c.new-facet.ensures in
+    let cos = c.new-facet.result in
+    rw (← facet.0, ← facet.1, ← facet.2, ← cos.cos_wo, ← cos.cos_wi, ← c.is_discarded.ensures, c.if-is_discarded.true)
 
 pub returns-then-reflection : goal.returns-then-reflection
-unfolding dielectric_pdf_from f_at of_bits
+unfolding dielectric_pdf_from f_at
 returns-then-reflection c =
-    rw (← normal_unread _ f0 _ _ _ _ _ _ _ _, ← c.dot-wh_dot_wo.ensures, ← c.dot-wh_dot_wi.ensures, ← c.is_discarded.ensures, c.if-is_discarded.false, ← c.is_smooth-smooth.ensures, ← c.normal_pdf_unless-normal_pdf.ensures, ← c.fresnel-pr.ensures, c.if-reflection.true, ← c.reflected_pdf.ensures)
+    let facet = c.new-facet.ensures in
+    let cos = c.new-facet.result in
+    rw (← normal_unread _ f0 _ _ _ _ _ _ _ _, ← facet.0, ← facet.1, ← facet.2, ← cos.cos_wo, ← cos.cos_wi, ← c.is_discarded.ensures, c.if-is_discarded.false, ← c.normal_pdf-normal_pdf.ensures, ← c.fresnel-pr.ensures, c.if-reflection.true, ← c.reflected_pdf.ensures)
 
 pub returns : goal.returns
-unfolding dielectric_pdf_from f_at of_bits
+unfolding dielectric_pdf_from f_at
 returns c =
-    rw (← normal_unread _ f0 _ _ _ _ _ _ _ _, ← c.dot-wh_dot_wo.ensures, ← c.dot-wh_dot_wi.ensures, ← c.is_discarded.ensures, c.if-is_discarded.false, ← c.is_smooth-smooth.ensures, ← c.normal_pdf_unless-normal_pdf.ensures, ← c.fresnel-pr.ensures, c.if-reflection.false, ← c.passed_pdf.ensures)
+    let facet = c.new-facet.ensures in
+    let cos = c.new-facet.result in
+    rw (← normal_unread _ f0 _ _ _ _ _ _ _ _, ← facet.0, ← facet.1, ← facet.2, ← cos.cos_wo, ← cos.cos_wi, ← c.is_discarded.ensures, c.if-is_discarded.false, ← c.normal_pdf-normal_pdf.ensures, ← c.fresnel-pr.ensures, c.if-reflection.false, ← c.passed_pdf.ensures)

@@ -1,6 +1,8 @@
--- `optics::microfacet::Ggx::g_over_g1` meets its contract: it is `g_over_g1_at` from Λ(wo) and wo · wh, by `g_over_g1_at_lem`.
+-- `optics::microfacet::Ggx::g_over_g1` meets its contract: it is the view's, from Λ(wo) and wo · wh, by `g_over_g1_at_lem`.
 use Rattle.optics.proofs.SharedTerms.{g_over_g1_at_lem}
 use Rattle.optics.proofs.microfacet.Ggx.g_over_g1.Goals as goal
 
 pub returns : goal.returns
-returns c = rw (← g_over_g1_at_lem, ← c.lambda.ensures, ← c.dot.ensures, ← c.g_over_g1_at.ensures)
+returns c =
+    let v = c.new.ensures in
+    rw (c.g_over_g1.ensures, (rw v.2 at c.new.result.lambda_is), c.dot.ensures, v.0, v.1) (g_over_g1_at_lem _ _ _ _)

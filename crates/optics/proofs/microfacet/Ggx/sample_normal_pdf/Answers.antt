@@ -1,6 +1,9 @@
--- `optics::microfacet::Ggx::sample_normal_pdf` meets its contract: it is `sample_normal_pdf_at` from Λ(wo) and wo · wh, by `normal-density`.
-use Rattle.optics.proofs.SharedTerms.{normal-density}
+-- `optics::microfacet::Ggx::sample_normal_pdf` meets its contract: it is the view's, from Λ(wo) and wo · wh, by `density-seen`.
+use Rattle.optics.proofs.SharedTerms.{density-seen}
 use Rattle.optics.proofs.microfacet.Ggx.sample_normal_pdf.Goals as goal
 
 pub returns : goal.returns
-returns c = rw (← normal-density, ← c.lambda.ensures, ← c.dot.ensures, ← c.sample_normal_pdf_at.ensures)
+returns c =
+    let view = c.new.ensures in
+    rw (← view.0, ← view.1)
+    (density-seen _ _ _ _ view.2 _ c.new.result.lambda_is _ (rw (← view.1) at c.dot.ensures) _ c.sample_normal_pdf.ensures)

@@ -12,4 +12,4 @@ pub returns-else-self : goal.returns-else-self
 unfolding shadowing
 returns-else-self c =
     let facet = c.args.self in
-    rw (c.g_over_g1_at.ensures, facet.is_cosine, facet.is_lambda, c.if-self.false, g_over_g1_at_lem)
+    rw (c.g_over_g1.ensures, facet.is_cosine, facet.view.lambda_is, c.if-self.false, g_over_g1_at_lem)

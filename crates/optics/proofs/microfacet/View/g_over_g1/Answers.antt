@@ -1,7 +1,7 @@
--- `optics::microfacet::Ggx::g_over_g1_at` meets its contract: the calls give what their contracts promise, and the definition is read in the same order.
+-- `optics::microfacet::View::g_over_g1` meets its contract: the calls give what their contracts promise, and the definition is read in the same order.
 use Rattle.optics.specs.SharedTerms.{g_over_g1_at}
 use lib.Ieee.{of_bits}
-use Rattle.optics.proofs.microfacet.Ggx.g_over_g1_at.Goals as goal
+use Rattle.optics.proofs.microfacet.View.g_over_g1.Goals as goal
 
 pub returns-then-g1 : goal.returns-then-g1
 unfolding g_over_g1_at of_bits
