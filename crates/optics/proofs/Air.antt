@@ -1,15 +1,9 @@
 -- An outer spectrum of ones is air, and beside metal any is (`in_air_lem`): the index is eta at every wavelength, and nothing that is read of a surface, refused for it or computed from it differs.
 -- A spectrum of ones is constant, so it is read as 1.0, and a value of binary64 divided by 1.0 is itself (`over_one`). Beside an eta without entries it has none either,
 -- and both read NaN.
-use mathlib.Core.Path.{◌≡◌, refl, sym, ap, ◌∙◌, subst}
-use mathlib.Core.Bool.{Bool, true, false, ◌&&◌, and-true, cond}
-use mathlib.Core.List.{List, [], ◌∷◌}
-use Prim.Native.Nat.{ℕ, suc, ◌-◌}
-use native.Mathlib.Nat.{le_antisymm}
-use native.Mathlib.Omega.{arith}
-use lib.Dec.{T, eqb→eq}
-use lib.ListN.{length}
-use lib.Ieee.{Float, nan, inf, fin, Format, binary64, add, mul, div, le, eq, fits}
+use Rattle.std.proofs.Common.{◌≡◌, refl, sym, ap, ◌∙◌, subst, Bool, true, false, ◌&&◌, cond, List, [], ◌∷◌, ℕ, suc, ◌-◌, le_antisymm, arith, T, eqb→eq, length, Float}
+use mathlib.Core.Bool.{and-true}
+use lib.Ieee.{nan, inf, fin, Format, binary64, add, mul, div, le, eq, fits}
 use lib.Ieee.Fits.{and_l, and_r, and_i, add-fits, cond-fits}
 use Rattle.floats.proofs.Rounding.Units.{U, U_pos, mag, unique}
 use Rattle.floats.proofs.Rounding.NonNegative.{Fine, unit_is, fine_pos}

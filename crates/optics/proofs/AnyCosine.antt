@@ -2,13 +2,8 @@
 -- A density takes it at a half vector whose length may be 0 or overflow, so nothing bounds the cosine there. A cosine that is a NaN
 -- gives one. Where an infinity comes up, as the cosine, the root inside, or a product with the index, it meets itself in a quotient
 -- (a - b) / (a + b), which is then a NaN; and where none does the term is from 0 to 1 as in Fresnel.
-use mathlib.Core.Path.{◌≡◌, refl, sym, ap, ◌∙◌, subst}
-use mathlib.Core.Logic.{◌⊎◌, inl, inr}
-use mathlib.Core.Bool.{Bool, true, false, not, cond}
-use Prim.Native.Nat.{ℕ, zero, suc, ◌<◌}
-use native.Mathlib.Nat.{lt_of_lt_of_le}
-use lib.Dec.{T, T_not}
-use lib.Ieee.{Float, nan, inf, fin, Format, binary64, is_nan, neg, add, sub, mul, div, le, lt, eq, fits}
+use Rattle.std.proofs.Common.{◌≡◌, refl, sym, ap, ◌∙◌, subst, ◌⊎◌, inl, inr, Bool, true, false, not, cond, ℕ, zero, suc, ◌<◌, lt_of_lt_of_le, T, T_not, Float}
+use lib.Ieee.{nan, inf, fin, Format, binary64, is_nan, neg, add, sub, mul, div, le, lt, eq, fits}
 use lib.Ieee.Fits.{mul-fits, div-fits, sub-fits}
 use Rattle.floats.proofs.Rounding.Units.{U, U_pos, sign, mag, is_of, is_finite_lem, add_is, sum_is, sub_opens, add-nan}
 use Rattle.floats.proofs.Rounding.NonNegative.{Ext}

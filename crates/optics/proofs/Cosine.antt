@@ -1,7 +1,6 @@
 -- The cosine between two directions is the same from either side, and the square of the sine reads no sign of it.
-use mathlib.Core.Path.{◌≡◌, refl}
-use mathlib.Core.Bool.{true, false}
-use lib.Ieee.{Float, nan, inf, fin, binary64, neg, mul}
+use Rattle.std.proofs.Common.{◌≡◌, refl, true, false, Float}
+use lib.Ieee.{nan, inf, fin, binary64, neg, mul}
 use Rattle.floats.proofs.Rounding.Units.{product_comm}
 use Rattle.floats.specs.Float.{◌⊗◌, abs}
 use Rattle.numbers.specs.Vec3.{dot}

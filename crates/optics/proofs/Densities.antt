@@ -3,11 +3,8 @@
 -- absorption (`dielectric_not_below`); so for a surface and a wavelength that the counter accepts, a density that is finite is not
 -- below 0 (`density_not_below`). Nothing is asked of the directions: a NaN or an overflow inside gives a NaN or the infinity. By Signs,
 -- and by AnyCosine for the shares.
-use mathlib.Core.Path.{◌≡◌, refl, sym, subst}
-use mathlib.Core.Logic.{inl, inr}
-use mathlib.Core.Bool.{Bool, true, false, cond}
-use lib.Dec.{T}
-use lib.Ieee.{Float, nan, Format, binary64, add, sub, neg, le, lt, eq, fits}
+use Rattle.std.proofs.Common.{◌≡◌, refl, sym, subst, inl, inr, Bool, true, false, cond, T, Float}
+use lib.Ieee.{nan, Format, binary64, add, sub, neg, le, lt, eq, fits}
 use Rattle.numbers.proofs.dense_spectrum.Interpolation.{Index, AllFit}
 use Rattle.floats.specs.Float.{◌⊕◌, ◌⊖◌, ◌⊗◌, ◌⊘◌, f0, f1, epsilon, abs, powi2, is_finite}
 use Rattle.numbers.specs.Vec3.{dot}

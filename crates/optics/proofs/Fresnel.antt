@@ -3,15 +3,9 @@
 -- `fr_real` is finite and from 0 to 1; so is `fresnel` where k is zero (`fresnel-share`). Where the sine's square is not 1 or more the
 -- root inside is at least `index_most` units (`inner`), so both quotients have a divisor above 0, and the square of each is from 0 to 1 by
 -- `contrast` of Shares.
-use mathlib.Core.Path.{◌≡◌, refl, sym, ap, ◌∙◌, subst}
-use mathlib.Core.Logic.{inl, inr}
-use mathlib.Core.List.{[], ◌∷◌}
-use mathlib.Core.Bool.{beq, Bool, true, false, not, ◌||◌, cond}
-use Prim.Native.Nat.{ℕ, zero, suc, ◌+◌, ◌-◌, ◌*◌, ◌^◌, ◌≤◌, ◌<◌, zero-le}
-use native.Mathlib.Nat.{le_trans, le_of_eq, lt_of_le_of_lt, lt_of_lt_of_le, lt_irrefl, mul-le-mul_right, mul-le-mul_left, mul-le-mul, le_of_mul-le-mul_right, mul-pos, mul_comm, mul_assoc, zero-lt-suc, le_of_lt, one-mul}
-use native.Mathlib.Omega.{arith}
-use lib.Dec.{T, eqb, eqb→eq, lit≤, lit<, T_not}
-use lib.Ieee.{Float, nan, inf, fin, Format, binary64, up, down, neg, le, lt, eq, fits}
+use Rattle.std.proofs.Common.{◌≡◌, refl, sym, ap, ◌∙◌, subst, inl, inr, [], ◌∷◌, Bool, true, false, not, ◌||◌, cond, ℕ, zero, suc, ◌+◌, ◌-◌, ◌*◌, ◌^◌, ◌≤◌, ◌<◌, zero-le, le_trans, le_of_eq, lt_of_le_of_lt, lt_of_lt_of_le, lt_irrefl, mul-le-mul_right, mul-le-mul_left, mul-le-mul, le_of_mul-le-mul_right, mul-pos, mul_comm, mul_assoc, zero-lt-suc, le_of_lt, one-mul, arith, T, eqb, eqb→eq, lit≤, lit<, T_not, Float}
+use mathlib.Core.Bool.{beq}
+use lib.Ieee.{nan, inf, fin, Format, binary64, up, down, neg, le, lt, eq, fits}
 use lib.Ieee.Fits.{and_l, mul-fits, div-fits, sub-fits}
 use Rattle.floats.proofs.Rounding.{rnd, rnd_fix, below_or_from}
 use Rattle.floats.proofs.Rounding.Units.{U, O, U_pos, U_O, Is, is_of, sign, mag, pp, nn, neg_is, sub_opens, zero_units}

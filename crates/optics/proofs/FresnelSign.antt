@@ -1,7 +1,6 @@
 -- The Fresnel term is a NaN or not below 0, for any index and any directions (`fresnel_not_below`): it is half of a sum of squares, 1 or 0.
-use mathlib.Core.Path.{refl}
-use mathlib.Core.Bool.{Bool, true, false, cond}
-use lib.Ieee.{Float, eq}
+use Rattle.std.proofs.Common.{refl, Bool, true, false, cond, Float}
+use lib.Ieee.{eq}
 use Rattle.floats.specs.Float.{◌⊕◌, ◌⊗◌, ◌⊘◌, f0, f1, f2, clamp, abs}
 use Rattle.numbers.specs.Complex.{complex, norm_sqr}
 use Rattle.numbers.specs.Vec3.{dot}

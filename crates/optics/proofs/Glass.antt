@@ -5,14 +5,8 @@
 -- and a direction of theirs has finite parts (`glass-outcome`, `metal-outcome`; `glass_never_total`,
 -- `glass-direction`). Where `refract` would meet total reflection F is 1, to the last bit the same computation (`total-is_one`), so
 -- that u < 1 takes the mirrored branch.
-use mathlib.Core.Path.{◌≡◌, refl, sym, ap, ◌∙◌, subst}
-use mathlib.Core.List.{[], ◌∷◌}
-use mathlib.Core.Bool.{Bool, true, false, cond}
-use Prim.Native.Nat.{ℕ, ◌+◌, ◌*◌, ◌≤◌, ◌<◌}
-use native.Mathlib.Nat.{le_trans, le_of_eq, lt_of_le_of_lt, mul-le-mul_right, le_of_mul-le-mul_right, mul_comm, mul_assoc, mul-le-mul_left}
-use native.Mathlib.Omega.{arith}
-use lib.Dec.{T, lit≤, lit<}
-use lib.Ieee.{Float, fin, Format, binary64, unlike, neg, lt, eq, fits}
+use Rattle.std.proofs.Common.{◌≡◌, refl, sym, ap, ◌∙◌, subst, [], ◌∷◌, Bool, true, false, cond, ℕ, ◌+◌, ◌*◌, ◌≤◌, ◌<◌, le_trans, le_of_eq, lt_of_le_of_lt, mul-le-mul_right, le_of_mul-le-mul_right, mul_comm, mul_assoc, mul-le-mul_left, arith, T, lit≤, lit<, Float}
+use lib.Ieee.{fin, Format, binary64, unlike, neg, lt, eq, fits}
 use lib.Ieee.Fits.{add-fits, div-fits}
 use Rattle.floats.proofs.Rounding.{rnd}
 use Rattle.floats.proofs.Rounding.Units.{U, O, U_pos, Is, is_of, sign, mag, div_is, round_units, rnd_U, unique}

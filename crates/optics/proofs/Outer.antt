@@ -1,11 +1,8 @@
 -- The index of glass against what lies outside it: eta divided by the outer spectrum, rounded once.
 -- Proved, for every surface whose spectra are accepted: the index at a wavelength from 360 to 830 is finite and from 1 / 2 ^ 14 to 2 ^ 14 (`index_in`), so that
 -- all laws of glass hold of it. Each of the two that are divided lies from 1 / 2 ^ 7 to 2 ^ 7: what is read of the outer spectrum (`outer_read`) as what is read of eta.
-use mathlib.Core.Path.{◌≡◌, refl, ap, subst}
-use mathlib.Core.Bool.{Bool, true, false, ◌&&◌, cond}
-use mathlib.Core.List.{List}
-use lib.Dec.{T, lit<}
-use lib.Ieee.{Float, Format, binary64, eq, fits}
+use Rattle.std.proofs.Common.{◌≡◌, refl, ap, subst, Bool, true, false, ◌&&◌, cond, List, T, lit<, Float}
+use lib.Ieee.{Format, binary64, eq, fits}
 use lib.Ieee.Fits.{and_l, and_r, and_i}
 use Rattle.floats.specs.Float.{◌⊘◌, f0, decimal}
 use Rattle.numbers.specs.DenseSpectrum.{step_of, is_table, one_spacing, terminated, entry, sample_one_at, is_constant, all_within, is_wavelength}

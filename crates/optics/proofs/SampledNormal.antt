@@ -3,16 +3,8 @@
 -- and circle pair that the counter accepts, the stretched direction, the tangents, the combined vector and the normal are finite, and
 -- the normal is a unit vector, `Unitary`. So is Z (`z_unitary`). Sizes by Sizes; that each length is away from 0 by LocalBasis, by the
 -- test against EPSILON, and by the lower bound on z.
-use mathlib.Core.Path.{◌≡◌, refl, sym, ap, ◌∙◌, subst}
-use mathlib.Core.Logic.{◌⊎◌, inl, inr}
-use mathlib.Core.List.{List, [], ◌∷◌}
-use mathlib.Core.Bool.{Bool, true, false, not, cond, ◌&&◌}
-use Prim.Native.Nat.{ℕ, suc, ◌+◌, ◌*◌, ◌/◌, ◌^◌, ◌≤◌, ◌<◌}
-use native.Mathlib.Nat.{le_trans, le_of_eq, mul-le-mul_right, mul-le-mul_left, mul-le-mul, le_of_mul-le-mul_right}
-use native.Mathlib.Omega.{arith}
-use lib.IntN.{negsuc}
-use lib.Dec.{T, lit≤}
-use lib.Ieee.{Float, nan, inf, fin, Format, binary64, is_nan, neg, le, lt, fits}
+use Rattle.std.proofs.Common.{◌≡◌, refl, sym, ap, ◌∙◌, subst, ◌⊎◌, inl, inr, List, [], ◌∷◌, Bool, true, false, not, cond, ◌&&◌, ℕ, suc, ◌+◌, ◌*◌, ◌/◌, ◌^◌, ◌≤◌, ◌<◌, le_trans, le_of_eq, mul-le-mul_right, mul-le-mul_left, mul-le-mul, le_of_mul-le-mul_right, arith, negsuc, T, lit≤, Float}
+use lib.Ieee.{nan, inf, fin, Format, binary64, is_nan, neg, le, lt, fits}
 use lib.Ieee.Fits.{and_l, and_r}
 use Rattle.floats.proofs.Rounding.{Near, below_or_from}
 use Rattle.floats.proofs.Rounding.Units.{U, U_pos, mag, le-finite}

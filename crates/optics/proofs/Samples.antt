@@ -1,9 +1,7 @@
 -- Document 01's starred samples about this crate and known values of the index of glass (`Samples`, `IndexSamples` of specs/Samples.antt): each is
 -- computed from the definitions.
-use mathlib.Core.Path.{◌≡◌, refl, ap, ◌∙◌}
-use mathlib.Core.Bool.{Bool, false, cond}
-use lib.IntN.{negsuc}
-use lib.Ieee.{Float, fin, binary64, add, sub, mul, div, neg, lt, le, eq, is_nan, of_int, to_unsigned, to_bits}
+use Rattle.std.proofs.Common.{◌≡◌, refl, ap, ◌∙◌, Bool, false, cond, negsuc, Float}
+use lib.Ieee.{fin, binary64, add, sub, mul, div, neg, lt, le, eq, is_nan, of_int, to_unsigned, to_bits}
 use Rattle.floats.specs.Float.{f0, f1, f2, decimal, epsilon, max, abs, clamp, sign_bit, signum, is_infinite, powi2}
 use Rattle.floats.specs.SquareRoot.{square_root}
 use Rattle.numbers.specs.DenseSpectrum.{step_of, ceiling, upper_point, upper_lambda, upper_weight, interpolate, sample_one_at, every, is_constant}

@@ -3,15 +3,9 @@
 -- Proved: `lambda_not_below` for a direction of parts of at most `reach`, which those of Glass are; `weight-share` for two such
 -- directions and any normal, so on glass and on metal. The tangent's square is a quotient of two values that are not negative, or
 -- 1 / 0; the clamped cosines of the azimuth are from -1 to 1.
-use mathlib.Core.Path.{◌≡◌, refl, sym, ap, ◌∙◌, subst}
-use mathlib.Core.Logic.{◌⊎◌, inl, inr}
-use mathlib.Core.List.{[], ◌∷◌}
-use mathlib.Core.Bool.{beq, Bool, true, false, not, ◌||◌, cond, true≢false}
-use Prim.Native.Nat.{ℕ, zero, suc, ◌+◌, ◌-◌, ◌*◌, ◌≤◌, ◌<◌, zero-le}
-use native.Mathlib.Nat.{le_refl, le_trans, le_of_eq, lt_of_le_of_lt, lt_of_lt_of_le, lt_irrefl, not-le_of_lt, mul-le-mul_right, mul-le-mul_left, mul-le-mul, mul-pos, zero-lt-suc}
-use native.Mathlib.Omega.{arith}
-use lib.Dec.{T, eqb, eqb→eq, lit≤, lit<, T_not}
-use lib.Ieee.{Float, nan, inf, fin, Format, binary64, unlike, up, down, level, neg, add, sub, div, le, lt, eq, is_nan, fits}
+use Rattle.std.proofs.Common.{◌≡◌, refl, sym, ap, ◌∙◌, subst, ◌⊎◌, inl, inr, [], ◌∷◌, Bool, true, false, not, ◌||◌, cond, true≢false, ℕ, zero, suc, ◌+◌, ◌-◌, ◌*◌, ◌≤◌, ◌<◌, zero-le, le_refl, le_trans, le_of_eq, lt_of_le_of_lt, lt_of_lt_of_le, lt_irrefl, not-le_of_lt, mul-le-mul_right, mul-le-mul_left, mul-le-mul, mul-pos, zero-lt-suc, arith, T, eqb, eqb→eq, lit≤, lit<, T_not, Float}
+use mathlib.Core.Bool.{beq}
+use lib.Ieee.{nan, inf, fin, Format, binary64, unlike, up, down, level, neg, add, sub, div, le, lt, eq, is_nan, fits}
 use lib.Ieee.Fits.{and_i, eq→eqb, add-fits, mul-fits, div-fits, sub-fits}
 use lib.Ieee.Scale.{finite}
 use Rattle.floats.proofs.Rounding.{rnd, below_or_from}

@@ -1,22 +1,20 @@
 -- A term that is computed once and handed on changes nothing: from it each form of specs/SharedTerms.antt is its formula.
 -- The cosine wo · wh stands for wh · wo, by `dot_comm`. Where a surface scatters into one direction nothing reads Λ(wo),
 -- so that it is right elsewhere (`density-seen`), nor on glass the density of the normal (`normal_unread`).
-use mathlib.Core.Path.{◌≡◌, refl, ap, ◌∙◌}
-use mathlib.Core.Bool.{Bool, true, false, cond}
-use mathlib.Core.List.{List}
-use lib.Ieee.{Float, neg, lt, eq}
+use Rattle.std.proofs.Common.{◌≡◌, refl, ap, ◌∙◌, Bool, true, false, cond, List, Float}
+use lib.Ieee.{neg, lt, eq}
 use Rattle.floats.specs.Float.{◌⊕◌, ◌⊘◌, f0, f1}
 use Rattle.numbers.specs.SphericalUtils.{sin_theta, cos_phi, sin_phi}
 use Rattle.numbers.specs.Vec3.{negate, dot}
 use Rattle.numbers.specs.declared.vec2.Vec2.{Vec2}
 use Rattle.numbers.specs.declared.vec3.Vec3.{Vec3}
-use Rattle.optics.specs.Facets.{is_delta, lambda, chi_pass, masked, g1, g, g_over_g1, sample_normal_pdf}
+use Rattle.optics.specs.Facets.{lambda, chi_pass, masked, g1, g, g_over_g1, sample_normal_pdf}
 use Rattle.numbers.specs.DenseSpectrum.{step_of, is_constant}
 use Rattle.optics.specs.Color.{Color}
 use Rattle.optics.specs.Surface.{Metal, Glass, Outside, medium, k_from, eta_at, k_at, outer_at, index_on}
 use Rattle.optics.specs.Fresnel.{index_from, sin2_i, cos_i, fr_facing, fr_real, fresnel, f_at, f}
-use Rattle.optics.specs.Bxdf.{refract_facing, refract, Scattered, is_smooth, dielectric_from}
-use Rattle.optics.specs.Density.{conductor_half, conductor_pdf_from, conductor_pdf, eta_ratio, dielectric_half, reflected_pdf, passed_pdf, dielectric_pdf_from, dielectric_pdf}
+use Rattle.optics.specs.Bxdf.{refract_facing, refract, Scattered, dielectric_from}
+use Rattle.optics.specs.Density.{reflected_pdf, passed_pdf, dielectric_pdf_from}
 use Rattle.optics.specs.SharedTerms.{Snell, azimuth, chi_pass_at, g1_at, g_over_g1_at, sample_normal_pdf_at, snell, fr_real_from, fresnel_from, refract_facing_from, refract_from, dielectric_from_snell, outer_from, quotient_from, f_metal_from, f_glass_from}
 use Rattle.optics.specs.Known.{Known, reading_on_glass, known_on_glass}
 use Rattle.optics.proofs.Cosine.{dot_comm, sin2_abs, sin2_neg}

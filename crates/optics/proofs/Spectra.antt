@@ -1,16 +1,9 @@
 -- What the spectra of an accepted surface are at a wavelength from 360 to 830.
 -- Proved: eta is finite and from 1 / 128 to 128 (`eta_read`), so an index (`eta-index`), and on glass k compares equal to 0 (`glass-k-zero`). The
 -- first by the lookup's laws of the crate `numbers`; the second since a sum of products with zeros, of either sign, is a zero.
-use mathlib.Core.Path.{◌≡◌, refl, sym, ap, ◌∙◌, subst}
-use mathlib.Core.Logic.{inl, inr}
-use mathlib.Core.Bool.{beq, Bool, true, false, ◌&&◌, ◌||◌, cond}
-use mathlib.Core.List.{List, [], ◌∷◌}
-use Prim.Native.Nat.{ℕ, zero, suc, ◌-◌, ◌*◌, ◌≤◌, ◌<◌, zero-le}
-use native.Mathlib.Nat.{le_trans, le_of_eq, lt_of_le_of_lt, not-le_of_lt, mul-pos, zero-lt-suc}
-use native.Mathlib.Omega.{arith}
-use lib.Dec.{T, eqb, lit<}
-use lib.ListN.{length}
-use lib.Ieee.{Float, nan, inf, fin, Format, binary64, up, down, le, eq, fits}
+use Rattle.std.proofs.Common.{◌≡◌, refl, sym, ap, ◌∙◌, subst, inl, inr, Bool, true, false, ◌&&◌, ◌||◌, cond, List, [], ◌∷◌, ℕ, zero, suc, ◌-◌, ◌*◌, ◌≤◌, ◌<◌, zero-le, le_trans, le_of_eq, lt_of_le_of_lt, not-le_of_lt, mul-pos, zero-lt-suc, arith, T, eqb, lit<, length, Float}
+use mathlib.Core.Bool.{beq}
+use lib.Ieee.{nan, inf, fin, Format, binary64, up, down, le, eq, fits}
 use lib.Ieee.Fits.{and_l, and_r, and_i, eq→eqb, div-fits, sub-fits}
 use Rattle.floats.proofs.Rounding.{rnd}
 use Rattle.floats.proofs.Rounding.Units.{U, O, U_pos, U_O, either}

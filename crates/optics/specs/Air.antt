@@ -1,7 +1,6 @@
 -- Air outside glass: an outer spectrum of ones changes nothing of what 01 has, where there is none (02 (iv): "With an outer spectrum of ones the Rust's figures must
 -- still appear"). Definitions only; `InAir` is proved in proofs/Air.antt, and the crates above say the same of what they answer.
-use mathlib.Core.{Path.◌≡◌, Bool.Bool, List.List}
-use Rattle.std.specs.Prelude.{T, Float}
+use Rattle.std.specs.Prelude.{T, Float, ◌≡◌, Bool, List}
 use Rattle.floats.specs.Float.{f1}
 use Rattle.numbers.specs.DenseSpectrum.{one_spacing, is_constant, all_within}
 use Rattle.numbers.specs.declared.vec3.Vec3.{Vec3}

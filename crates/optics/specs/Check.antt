@@ -1,6 +1,5 @@
 -- What document 01 asks of an argument, and the number of its refusal ("At the counter"). Definitions only.
-use mathlib.Core.{Bool.Bool, Bool.◌&&◌, List.List}
-use Rattle.std.specs.Prelude.{Float}
+use Rattle.std.specs.Prelude.{Float, Bool, ◌&&◌, List}
 use Rattle.std.specs.Float.Ieee.{lt, le}
 use Rattle.floats.specs.Float.{◌⊕◌, ◌⊗◌, f0, f1, f_1, decimal, within}
 use Rattle.numbers.specs.DenseSpectrum.{is_lookup_wavelength}

@@ -1,7 +1,6 @@
 -- The Fresnel term, exact (Walter et al. 2007, eq. 22; PBR book 8.2), in the order of operations of lumo's src/tracer/microfacet.rs. Definitions only.
 -- cosO is wo · wh; eta and k are the index and the absorption at one wavelength.
-use mathlib.Core.{Bool.Bool, Bool.cond, List.List}
-use Rattle.std.specs.Prelude.{Float}
+use Rattle.std.specs.Prelude.{Float, Bool, cond, List}
 use Rattle.std.specs.Float.Ieee.{lt, le, eq}
 use Rattle.floats.specs.Float.{◌⊕◌, ◌⊖◌, ◌⊗◌, ◌⊘◌, f0, f1, f2, max, abs, clamp}
 use Rattle.floats.specs.SquareRoot.{sqrt}

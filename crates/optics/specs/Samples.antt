@@ -1,7 +1,6 @@
 -- Document 01's measured samples that are to be proved (marked * there), as far as they concern this crate: one conjunction (`Samples`). Beside them known values of the index of
 -- glass (`IndexSamples`, 02 (iv)). Definitions only; both are proved in proofs/Samples.antt.
-use mathlib.Core.{Path.◌≡◌, Bool.false}
-use Rattle.std.specs.Prelude.{negsuc, Float, replicate}
+use Rattle.std.specs.Prelude.{negsuc, Float, replicate, ◌≡◌, false}
 use Rattle.std.specs.Float.{fin, binary64}
 use Rattle.std.specs.Float.Ieee.{to_bits}
 use Rattle.floats.specs.Float.{f0, f1, f2, decimal}

@@ -1,6 +1,5 @@
 -- A surface of metal or glass, what it may hold, and its spectra at a wavelength (document 01, "Records"; lumo's `MicrofacetConfig`). Definitions only.
-use Rattle.std.specs.Prelude.{ℕ, Float, pos, eqb, leb, Result, Ok, Err}
-use mathlib.Core.{Bool.Bool, Bool.true, Bool.false, Bool.◌&&◌, Bool.◌||◌, Bool.cond, List.List}
+use Rattle.std.specs.Prelude.{ℕ, Float, pos, eqb, leb, Result, Ok, Err, Bool, true, false, ◌&&◌, ◌||◌, cond, List}
 use Rattle.std.specs.Float.{fin}
 use Rattle.std.specs.Float.Ieee.{eq}
 use Rattle.floats.specs.Float.{◌⊘◌, f0, f1, decimal, max, within}

@@ -76,6 +76,7 @@ fn refract_facing(snell: Snell, cos_to: f64, wo: Vec3, n: Vec3) -> Refracted
 
 // The density of the sampled directions, on local directions; `eta` and `k` are those at the leading
 // wavelength.
+#[tactic(auto, unfolding(crate::specs::Density::pdf_of))]
 pub fn pdf(kind: Kind, mfd: Ggx, wo: Vec3, wi: Vec3, reflection: bool, eta: f64, k: f64) -> f64
     ensures { result ≡ pdf_of kind mfd.roughness eta k reflection wo wi }
 {

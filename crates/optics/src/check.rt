@@ -29,6 +29,7 @@ fn is_roughness(a: f64) -> bool
     float::within(ROUGHNESS_MIN, 1.0, a)
 }
 
+#[tactic(auto, unfolding(crate::specs::Surface::roughness_holds))]
 fn roughness_holds(a: Vec2) -> bool
     ensures { result ≡ roughness_holds a }
 {
@@ -41,18 +42,21 @@ fn is_eta(eta: f64) -> bool
     float::within(ETA_MIN, ETA_MAX, eta)
 }
 
+#[tactic(auto, unfolding(crate::specs::Surface::eta_holds))]
 fn eta_holds(eta: &[f64]) -> bool
     ensures { result ≡ eta_holds eta.now }
 {
     dense_spectrum::is_table(eta) && dense_spectrum::all_within(eta, ETA_MIN, ETA_MAX)
 }
 
+#[tactic(auto, unfolding(crate::specs::Surface::all_zero))]
 fn all_zero(k: &[f64]) -> bool
     ensures { result ≡ all_zero k.now }
 {
     dense_spectrum::all_within(k, 0.0, 0.0)
 }
 
+#[tactic(auto, unfolding(crate::specs::Surface::k_entries_hold))]
 fn k_entries_hold(kind: Kind, k: &[f64]) -> bool
     ensures { result ≡ k_entries_hold kind k.now }
 {
@@ -69,6 +73,7 @@ fn k_entries_hold(kind: Kind, k: &[f64]) -> bool
 }
 
 // A table of as many entries as eta has, all within their limits. Of what is no table no entry is read.
+#[tactic(auto, unfolding(crate::specs::Surface::k_holds))]
 fn k_holds(kind: Kind, eta: &[f64], k: &[f64]) -> bool
     ensures { result ≡ k_holds kind eta.now k.now }
 {
@@ -80,6 +85,7 @@ fn k_holds(kind: Kind, eta: &[f64], k: &[f64]) -> bool
 
 // On glass a table of as many entries as eta has, all within eta's limits; metal has no outer spectrum. Of what is no
 // table no entry is read.
+#[tactic(auto, unfolding(crate::specs::Surface::outer_holds))]
 fn outer_holds(kind: Kind, eta: &[f64], outer: &[f64]) -> bool
     ensures { result ≡ outer_holds kind eta.now (medium outer.now) }
 {

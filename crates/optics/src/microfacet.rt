@@ -153,6 +153,7 @@ impl Known {
 }
 
 // Eta itself at one wavelength, lumo's reading, which on glass is not yet the index.
+#[tactic(auto, unfolding(crate::specs::Surface::eta_at, crate::specs::Surface::eta_from, numbers::specs::DenseSpectrum::sample_one))]
 pub fn eta_at(eta: &[f64], wl: f64) -> f64
     ensures { result ≡ eta_at eta.now wl }
 {
@@ -205,6 +206,7 @@ impl OpticalConstants {
 }
 
 // Both at one wavelength.
+#[tactic(auto, unfolding(crate::specs::Surface::index_on, crate::specs::Surface::eta_at, crate::specs::Surface::k_at, crate::specs::Surface::outer_at, crate::specs::SharedTerms::quotient_from, crate::specs::SharedTerms::outer_from, crate::specs::Known::reading_on_glass))]
 pub fn optical_constants(kind: Kind, spectra: &Spectra<'_>, wl: f64) -> OpticalConstants
     ensures { (result.eta ≡ index_on kind spectra.now.eta (medium spectra.now.outer) wl) × (result.k ≡ k_at spectra.now.eta spectra.now.k wl) }
 {
@@ -247,6 +249,7 @@ fn metal_constants_at(step: f64, spectra: &Spectra<'_>, wl: f64) -> OpticalConst
 
 // The cosine or the sine of the azimuth, from the direction's part along x or y and the sine of its
 // polar angle.
+#[tactic(auto, unfolding(crate::specs::SharedTerms::azimuth))]
 fn azimuth(part: f64, sin: f64, pole: f64) -> f64
     ensures { result ≡ azimuth part sin pole }
 {
@@ -257,6 +260,7 @@ fn azimuth(part: f64, sin: f64, pole: f64) -> f64
 }
 
 // Schlicks approximation for Fresnel term
+#[tactic(auto, unfolding(crate::specs::Facets::f_schlick))]
 pub fn f_schlick(f0: f64, f90: f64, cos_theta: f64) -> f64
     ensures { result ≡ f_schlick f0 f90 cos_theta }
 {
@@ -295,6 +299,7 @@ impl Ggx {
     }
 
     // The microfacet distribution function of GGX, at a microsurface normal in shading space.
+    #[tactic(auto, unfolding(crate::specs::Facets::d, numbers::specs::SphericalUtils::tan2_theta, numbers::specs::SphericalUtils::sin2_theta, numbers::specs::SphericalUtils::cos2_theta))]
     pub fn d(self, wh: Vec3) -> f64
         ensures { result ≡ d self.roughness wh }
     {
@@ -317,6 +322,7 @@ impl Ggx {
     }
 
     // Lambda function used in the definition of the shadow-masking term, in PBR Chapter 8.4.3.
+    #[tactic(auto, unfolding(crate::specs::Facets::lambda, numbers::specs::SphericalUtils::tan2_theta, numbers::specs::SphericalUtils::sin2_theta, numbers::specs::SphericalUtils::cos2_theta))]
     pub fn lambda(self, w: Vec3) -> f64
         ensures { result ≡ lambda self.roughness w }
     {
@@ -346,6 +352,7 @@ impl Ggx {
         0.0
     }
 
+    #[tactic(auto, unfolding(crate::specs::Facets::g1, crate::specs::Facets::masked))]
     pub fn g1(self, wo: Vec3, wh: Vec3) -> f64
         ensures { result ≡ g1 self.roughness wo wh }
     {
@@ -400,6 +407,7 @@ impl Ggx {
 
     // Sampling microfacet normals (Heitz 2018) for importance sampling. `wo` in shading space;
     // `disk` is the disk number, `c` and `s` the cosine and the sine of the disk's angle.
+    #[tactic(auto, unfolding(crate::specs::Sampler::sample_normal))]
     pub fn sample_normal(self, wo: Vec3, disk: f64, c: f64, s: f64) -> Vec3
         ensures { result ≡ sample_normal self.roughness wo disk c s }
     {
@@ -562,6 +570,7 @@ pub fn f_at(wo: Vec3, wh: Vec3, eta: f64, k: f64) -> f64
     OpticalConstants { eta, k }.fresnel(wo.dot(wh))
 }
 
+#[tactic(auto, unfolding(crate::specs::Fresnel::fr_complex))]
 pub fn fr_complex(cos_o: f64, eta: f64, k: f64) -> f64
     ensures { result ≡ fr_complex cos_o eta k }
 {
@@ -661,6 +670,7 @@ impl Snell {
 }
 
 // From below, light leaves the glass.
+#[tactic(auto, unfolding(crate::specs::Fresnel::index_from))]
 fn index_from(cos_o: f64, eta: f64) -> f64
     ensures { result ≡ index_from cos_o eta }
 {

@@ -12,6 +12,7 @@ use numbers::spherical_utils;
 use numbers::vec3::Vec3;
 
 // The facet's normal: Z if delta.
+#[tactic(auto, unfolding(crate::specs::Bxdf::conductor_normal))]
 pub fn normal(wo: Vec3, mfd: Ggx, disk: f64, c: f64, s: f64) -> Vec3
     ensures { result ≡ conductor_normal mfd.roughness wo disk c s }
 {
@@ -22,6 +23,7 @@ pub fn normal(wo: Vec3, mfd: Ggx, disk: f64, c: f64, s: f64) -> Vec3
 }
 
 // The direction that the facet's normal `wh` sends on.
+#[tactic(auto, unfolding(crate::specs::Bxdf::conductor_from, crate::specs::Bxdf::branch, crate::specs::Bxdf::reflected, crate::specs::Bxdf::sampled))]
 pub fn sample_from(wo: Vec3, mfd: Ggx, wh: Vec3) -> Sampled
     ensures { sampled result ≡ conductor_from mfd.roughness wo wh }
 {
@@ -45,6 +47,7 @@ pub fn sample_from(wo: Vec3, mfd: Ggx, wh: Vec3) -> Sampled
     }
 }
 
+#[tactic(auto, unfolding(crate::specs::Bxdf::conductor_sample))]
 pub fn sample(wo: Vec3, mfd: Ggx, disk: f64, c: f64, s: f64) -> Sampled
     ensures { sampled result ≡ conductor_sample mfd.roughness wo disk c s }
 {

@@ -14,6 +14,7 @@ use floats::float;
 use numbers::vec3::Vec3;
 
 // Glass that scatters into one direction: delta, or of the index 1.0.
+#[tactic(auto, unfolding(crate::specs::Bxdf::is_smooth))]
 pub fn is_smooth(mfd: Ggx, eta: f64) -> bool
     ensures { result ≡ is_smooth mfd.roughness eta }
 {
@@ -21,6 +22,7 @@ pub fn is_smooth(mfd: Ggx, eta: f64) -> bool
 }
 
 // The facet's normal: Z for delta and index matched glass.
+#[tactic(auto, unfolding(crate::specs::Bxdf::dielectric_normal))]
 pub fn normal(wo: Vec3, mfd: Ggx, eta: f64, disk: f64, c: f64, s: f64) -> Vec3
     ensures { result ≡ dielectric_normal mfd.roughness eta wo disk c s }
 {
@@ -41,6 +43,7 @@ fn reflects(rand_u: f64, pr: f64) -> bool
 
 // The direction that the facet's normal `wh` sends on, `pr` being the share that is reflected, with
 // Snell's law at hand, of the cosine `wo.dot(wh)`.
+#[tactic(auto, unfolding(crate::specs::SharedTerms::dielectric_from_snell, crate::specs::Bxdf::branch, crate::specs::Bxdf::reflected, crate::specs::Bxdf::refracted, crate::specs::Bxdf::sampled))]
 pub fn sample_from(snell: Snell, wo: Vec3, wh: Vec3, pr: f64, rand_u: f64) -> Sampled
     ensures { sampled result ≡ dielectric_from_snell snell pr rand_u wo wh }
 {
@@ -93,6 +96,7 @@ pub fn pdf(wo: Vec3, wi: Vec3, reflection: bool, mfd: Ggx, eta: f64, k: f64) -> 
 }
 
 // The index from `wo`'s side to `wi`'s: 1 for a reflection.
+#[tactic(auto, unfolding(crate::specs::Density::eta_ratio, numbers::specs::SphericalUtils::cos_theta))]
 pub fn eta_ratio(reflection: bool, wo: Vec3, eta: f64) -> f64
     ensures { result ≡ eta_ratio reflection wo eta }
 {
@@ -117,6 +121,7 @@ pub fn half(eta: f64, ratio: f64, wo: Vec3, wi: Vec3) -> Vec3
 }
 
 // `pdf` with the index from `wo`'s side to `wi`'s and the normal that takes `wo` to `wi` at hand.
+#[tactic(auto, unfolding(crate::specs::Density::dielectric_pdf_from))]
 pub fn pdf_at(
     view: View,
     wi: Vec3,
@@ -193,7 +198,7 @@ impl Facet {
     }
 
     // Reflection, `pr` being its share.
-    #[tactic(auto, unfolding(crate::specs::Density::reflected_pdf, crate::specs::Density::mirrored_pdf, crate::specs::Bxdf::rest))]
+    #[tactic(auto, unfolding(crate::specs::Density::reflected_pdf, crate::specs::Bxdf::rest))]
     fn reflected_pdf(self, normal_pdf: f64, pr: f64) -> f64
         ensures { result ≡ reflected_pdf normal_pdf self.view.one_direction pr self.view.wo self.wh }
     {

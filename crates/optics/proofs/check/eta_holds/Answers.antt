@@ -7,7 +7,3 @@ use Rattle.optics.proofs.check.eta_holds.Goals as goal
 pub returns-then-is_table : goal.returns-then-is_table
 unfolding eta_holds eta_min of_bits decimal
 returns-then-is_table c = rw (← c.is_table.ensures, c.if-is_table.true, ← c.all_within.ensures)
-
-pub returns-else-is_table : goal.returns-else-is_table
-unfolding eta_holds eta_min of_bits decimal
-returns-else-is_table c = rw (← c.is_table.ensures, c.if-is_table.false)

@@ -13,7 +13,3 @@ returns-then-all_within c = rw (c.in-Metal.is, ← c.all_within.ensures, c.if-al
 pub returns-else-all_within : goal.returns-else-all_within
 unfolding k_entries_hold k_min decimal of_bits
 returns-else-all_within c = rw (c.in-Metal.is, ← c.all_within.ensures, c.if-all_within.false, or-false, ← c.all_zero.ensures)
-
-pub returns-in-Glass : goal.returns-in-Glass
-unfolding k_entries_hold k_min decimal of_bits
-returns-in-Glass c = rw (c.in-Glass.is, ← c.all_zero-in-Glass.ensures)

@@ -7,15 +7,3 @@ use Rattle.optics.proofs.check.outer_holds.Goals as goal
 pub returns-then-one_spacing : goal.returns-then-one_spacing
 unfolding outer_holds eta_min of_bits decimal
 returns-then-one_spacing c = rw (c.in-Glass.is, ← c.is_table.ensures, c.if-is_table.true, ← c.one_spacing.ensures, c.if-one_spacing.true, ← c.all_within.ensures)
-
-pub returns-else-one_spacing : goal.returns-else-one_spacing
-unfolding outer_holds eta_min of_bits decimal
-returns-else-one_spacing c = rw (c.in-Glass.is, ← c.is_table.ensures, c.if-is_table.true, ← c.one_spacing.ensures, c.if-one_spacing.false)
-
-pub returns-in-Metal : goal.returns-in-Metal
-unfolding outer_holds eta_min of_bits decimal
-returns-in-Metal c = rw c.in-Metal.is
-
-pub returns-else-is_table : goal.returns-else-is_table
-unfolding outer_holds eta_min of_bits decimal
-returns-else-is_table c = rw (c.in-Glass.is, ← c.is_table.ensures, c.if-is_table.false)

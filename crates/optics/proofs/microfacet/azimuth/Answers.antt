@@ -3,10 +3,6 @@ use Rattle.optics.specs.SharedTerms.{azimuth}
 use lib.Ieee.{of_bits, neg}
 use Rattle.optics.proofs.microfacet.azimuth.Goals as goal
 
-pub returns-then-sin : goal.returns-then-sin
-unfolding azimuth of_bits neg
-returns-then-sin c = rw c.if-sin.true
-
 pub returns : goal.returns
 unfolding azimuth of_bits neg
 returns c = rw (c.if-sin.false, ← c.clamp.ensures)

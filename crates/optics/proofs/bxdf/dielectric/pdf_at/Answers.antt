@@ -1,18 +1,10 @@
 -- `optics::bxdf::dielectric::pdf_at` meets its contract: the calls give what their contracts promise, and the definition is read in the same order.
 -- Smooth glass doesn't read the density of the normal, by `normal_unread`.
-use lib.Ieee.{of_bits}
 use Rattle.floats.specs.Float.{f0}
 use Rattle.optics.specs.Density.{dielectric_pdf_from}
 use Rattle.optics.specs.Fresnel.{f_at}
 use Rattle.optics.proofs.SharedTerms.{normal_unread}
 use Rattle.optics.proofs.bxdf.dielectric.pdf_at.Goals as goal
-
-pub returns-then-is_discarded : goal.returns-then-is_discarded
-unfolding dielectric_pdf_from of_bits
-returns-then-is_discarded c =
-    let facet = c.new-facet.ensures in
-    let cos = c.new-facet.result in
-    rw (← facet.0, ← facet.1, ← facet.2, ← cos.cos_wo, ← cos.cos_wi, ← c.is_discarded.ensures, c.if-is_discarded.true)
 
 pub returns-then-reflection : goal.returns-then-reflection
 unfolding dielectric_pdf_from f_at

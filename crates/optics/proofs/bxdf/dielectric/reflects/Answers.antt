@@ -1,5 +1,5 @@
 -- `optics::bxdf::dielectric::reflects` meets its contract: the definition, operation by operation.
-use mathlib.Core.Path.{refl}
+use Rattle.std.proofs.Common.{refl}
 use lib.Ieee.{of_bits}
 use Rattle.optics.specs.Bxdf.{reflects, rest}
 use Rattle.optics.proofs.bxdf.dielectric.reflects.Goals as goal

@@ -6,10 +6,6 @@ use lib.Ieee.{of_bits}
 use Rattle.optics.proofs.SharedTerms.{cos_phi_lem, sin_phi_lem}
 use Rattle.optics.proofs.microfacet.Ggx.d.Goals as goal
 
-pub returns-then-is_infinite : goal.returns-then-is_infinite
-unfolding d slope_squared cos4_theta tan2_theta sin2_theta cos2_theta sin_theta powi2 epsilon decimal of_bits
-returns-then-is_infinite c = rw (← c.max-sin2_theta.ensures, ← c.is_infinite.ensures, c.if-is_infinite.true)
-
 pub returns-then-cos4_theta : goal.returns-then-cos4_theta
 unfolding d slope_squared cos4_theta tan2_theta sin2_theta cos2_theta sin_theta powi2 epsilon decimal of_bits
 returns-then-cos4_theta c = rw (← c.max-sin2_theta.ensures, ← c.is_infinite.ensures, c.if-is_infinite.false, c.if-cos4_theta.true)

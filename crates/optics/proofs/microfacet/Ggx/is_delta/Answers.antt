@@ -1,5 +1,5 @@
 -- `optics::microfacet::Ggx::is_delta` meets its contract: its operations are the definition's, one by one.
-use mathlib.Core.Path.{refl}
+use Rattle.std.proofs.Common.{refl}
 use Rattle.floats.specs.Float.{decimal}
 use Rattle.optics.specs.Facets.{is_delta}
 use lib.Ieee.{of_bits}

@@ -6,10 +6,6 @@ use lib.Ieee.{of_bits}
 use Rattle.optics.proofs.SharedTerms.{cos_phi_lem, sin_phi_lem}
 use Rattle.optics.proofs.microfacet.Ggx.lambda.Goals as goal
 
-pub returns-then-is_infinite : goal.returns-then-is_infinite
-unfolding lambda lambda_of alpha2 tan2_theta sin2_theta cos2_theta sin_theta powi2 of_bits
-returns-then-is_infinite c = rw (← c.max-sin2_theta.ensures, ← c.is_infinite.ensures, c.if-is_infinite.true)
-
 pub returns : goal.returns
 unfolding lambda lambda_of alpha2 tan2_theta sin2_theta cos2_theta sin_theta powi2 of_bits
 returns c = rw (cos_phi_lem, sin_phi_lem, ← c.max-sin2_theta.ensures, ← c.is_infinite.ensures, c.if-is_infinite.false, ← c.sqrt-sin_theta.ensures, ← c.azimuth.ensures, ← c.azimuth-2.ensures, ← c.sqrt_or_zero.ensures)
