@@ -1,15 +1,34 @@
--- Laws of the definitions of many bounces: how long the numbers are, and that one more bounce is stored after those before it.
-use Rattle.std.proofs.Common.{◌≡◌, ℕ, zero, suc, ◌+◌, ◌*◌, List, ◌++◌, length, take, drop, sym, refl, ap, ◌∙◌, add-one, arith, length-append, drop-drop, take_at}
+-- Laws of the definitions of many bounces: which numbers a bounce has (`read`), how long the numbers are, and that one more bounce is stored after those before it (`stored`).
+use Rattle.std.proofs.Common.{◌≡◌, ℕ, zero, suc, ◌+◌, ◌-◌, ◌*◌, ◌<◌, ◌≤◌, List, [], ◌++◌, get_or, length, take, drop, sym, refl, ap, ◌∙◌, add-one, arith, length-append, drop-drop, take_at}
 use lib.Ieee.{Float}
+use Rattle.std.specs.Simd.{first_chunks}
+use Rattle.std.proofs.lemmas.List.{get_or-take}
+use Rattle.std.proofs.lemmas.Slice.{put_mid-paste}
+use borrow.Rule.Slice.PartMut.{put_mid}
 use lib.Seq.{paste, drop-append-add}
 use Rattle.optics.specs.Surface.{Microsurface}
 use Rattle.path.specs.Many.{result_numbers, numbers_out, bounced, bounced_at, all_bounced}
 
-pub length-bounced : (m : Microsurface) (xs : List Float) → length (bounced m xs) ≡ 18
+-- the i-th of the first k parts of 27
+part : (k : ℕ) (xs : List Float) (i : ℕ) → i < k → get_or (first_chunks 27 k xs) i [] ≡ take 27 (drop (27 * i) xs)
+part zero xs i h = elim h [ ]
+part (suc k) xs zero h = refl
+part (suc k) xs (suc i) h =
+    let next : 27 + 27 * i ≡ 27 * suc i = omega arith in
+    part k (drop 27 xs) i (omega arith)
+    ∙ ap (λ (l : List Float). take 27 l) (drop-drop (27 * i) 27 xs)
+    ∙ ap (λ (j : ℕ). take 27 (drop j xs)) next
+
+pub read : (m : Microsurface) (input : List Float) (parts : List (List Float)) (k n i : ℕ) → parts ≡ first_chunks 27 k input → i < n → n ≤ k
+    → bounced m (get_or (take n parts) i []) ≡ bounced_at m input i
+unfolding bounced_at
+read m input parts k n i e below room = ap (λ (l : List Float). bounced m l) (get_or-take n parts i [] below ∙ ap (λ (l : List (List Float)). get_or l i []) e ∙ part k input i (omega arith))
+
+length-bounced : (m : Microsurface) (xs : List Float) → length (bounced m xs) ≡ 18
 unfolding bounced numbers_out result_numbers
 length-bounced m xs = refl
 
-pub length-bounced_at : (m : Microsurface) (input : List Float) (n : ℕ) → length (bounced_at m input n) ≡ 18
+length-bounced_at : (m : Microsurface) (input : List Float) (n : ℕ) → length (bounced_at m input n) ≡ 18
 unfolding bounced_at
 length-bounced_at m input n = length-bounced m (take 27 (drop (27 * n) input))
 
@@ -36,7 +55,7 @@ last m input output n =
     ap (λ (k : ℕ). all_bounced m input k ++ drop (18 * (n + 1)) output) (sym (add-one n))
 
 -- the numbers of one more bounce, pasted after those of the first n
-pub one_more : (m : Microsurface) (input output : List Float) (n : ℕ)
+one_more : (m : Microsurface) (input output : List Float) (n : ℕ)
     → paste (all_bounced m input n ++ drop (18 * n) output) (18 * n) (bounced_at m input n) 18
     ≡ all_bounced m input (n + 1) ++ drop (18 * (n + 1)) output
 one_more m input output n =
@@ -55,3 +74,12 @@ one_more m input output n =
     ∙ ap (λ (l : List Float). A ++ l ++ drop (18 * n + 18) (A ++ D)) (all_18 m input n)
     ∙ ap (λ (l : List Float). A ++ R ++ l) after
     ∙ last m input output n
+
+-- and so after a turn of the loop
+pub stored : (m : Microsurface) (input output now new : List Float) (i : ℕ)
+    → now ≡ all_bounced m input i ++ drop (18 * i) output → new ≡ bounced_at m input i
+    → put_mid (18 * i) (18 * i + 18 - 18 * i) now new ≡ all_bounced m input (i + 1) ++ drop (18 * (i + 1)) output
+stored m input output now new i e f =
+    put_mid-paste (18 * i) (18 * i + 18 - 18 * i) now new (bounced_at m input i) 18 f (omega arith) (sym (length-bounced_at m input i))
+    ∙ ap (λ (l : List Float). paste l (18 * i) (bounced_at m input i) 18) e
+    ∙ one_more m input output i

@@ -1,6 +1,6 @@
 -- Many bounces on one surface, each on a path of its own: 27 numbers in, 18 out. Definitions only.
-use Rattle.std.specs.Prelude.{ℕ, zero, suc, ◌*◌, ◌/◌, take, drop, pos, nat_le, slice_index_or, Float}
-use mathlib.Core.{Bool.Bool, Bool.cond, List.List, List.[], List.◌∷◌, List.◌++◌}
+use Rattle.std.specs.Prelude.{ℕ, zero, suc, ◌*◌, ◌/◌, take, drop, pos, min, slice_index_or, Float}
+use mathlib.Core.{Bool.Bool, List.List, List.[], List.◌∷◌, List.◌++◌}
 use Rattle.std.specs.Float.{nan, binary64}
 use Rattle.std.specs.Float.Ieee.{ne, of_int}
 use Rattle.floats.specs.Float.{f0}
@@ -67,4 +67,4 @@ all_bounced m input (suc n) = all_bounced m input n ++ bounced_at m input n
 
 -- as many as an input and an output of these lengths have room for
 unfoldable pub count_of : ℕ → ℕ → ℕ
-count_of input output = cond (nat_le (input / 27) (output / 18)) (input / 27) (output / 18)
+count_of input output = min (input / 27) (output / 18)

@@ -1,13 +1,8 @@
--- `path::many::run` meets its contract: the first i bounces are stored and the rest of the output is as it was. The measure is what is left of n.
-use Rattle.std.proofs.Common.{◌≡◌, ◌-◌, ◌*◌, ◌≤◌, ◌++◌, length, drop}
+-- `path::many::run` meets its contract: the first i bounces are stored and the rest of the output is as it was.
+use Rattle.std.proofs.Common.{◌≡◌, ◌*◌, ◌++◌, drop}
 use Rattle.path.specs.Many.{all_bounced}
 use Rattle.path.proofs.many.run.Given as goal
 
 abbrev pub invariant-loop-i : goal.invariant-loop-i
 invariant-loop-i l =
-    (l.i ≤ l.n)
-    × (l.output ≡ all_bounced l.m.surface.now l.input l.i ++ drop (18 * l.i) l.initial.output)
-    × (length l.output ≡ length l.initial.output)
-
-abbrev pub decreases-loop-i : goal.decreases-loop-i
-decreases-loop-i l = l.n - l.i
+    l.output ≡ all_bounced l.m.surface.now l.input l.i ++ drop (18 * l.i) l.initial.output
