@@ -5,7 +5,7 @@ ghost use Rattle.path.specs.declared.records.Path.{Path};
 ghost use Rattle.rays.specs.Store.{path_in, keep_path};
 
 use crate::replies::Measure;
-use crate::store::{Entries, Made, Paths, Surfaces};
+use crate::store::{Entries, Made, Places};
 use crate::{list, replies, sizes};
 use candidates::owned::List;
 use numbers::dense_spectrum::DenseSpectrum;
@@ -40,8 +40,8 @@ fn no_surface(word: u64) -> Fault {
 // What a job holds between two lines.
 #[derive(Drop)]
 pub struct Job {
-    surfaces: Surfaces,
-    paths: Paths,
+    surfaces: Places<Made, { sizes::SURFACES }>,
+    paths: Places<Path, { sizes::PATHS }>,
     list: List,
 }
 
@@ -153,7 +153,12 @@ fn measure_on(m: &Microsurface<'_>, leading: f64) -> Measure {
 
 // A bounce of the path that is held as `p`, which is then the path that the answer carries: the same as
 // before if the bounce is refused. None if none is held.
-fn bounce_held(paths: &mut Paths, p: u64, m: &Microsurface<'_>, b: Bounce) -> Option<Bounced>
+fn bounce_held(
+    paths: &mut Places<Path, { sizes::PATHS }>,
+    p: u64,
+    m: &Microsurface<'_>,
+    b: Bounce,
+) -> Option<Bounced>
     ensures { MatchOption result
         ((path_in paths.old.held p ≡ None) × (paths.new.held ≡ paths.old.held))
         (λ r. (before : Path)
@@ -161,7 +166,7 @@ fn bounce_held(paths: &mut Paths, p: u64, m: &Microsurface<'_>, b: Bounce) -> Op
         × ((outcome r ≡ bounce before m.now b)
         × (paths.new.held ≡ keep_path paths.old.held p (path_of (outcome r)))))) }
 {
-    let before = paths.get(p)?;
+    let before = *paths.get(p)?;
     let answer = bsdf::bounce(before, m, b);
     paths.keep(p, answer.path());
     Some(answer)
@@ -170,8 +175,8 @@ fn bounce_held(paths: &mut Paths, p: u64, m: &Microsurface<'_>, b: Bounce) -> Op
 impl Job {
     pub fn new() -> Job {
         Job {
-            surfaces: Surfaces::new(),
-            paths: Paths::new(),
+            surfaces: Places::new(),
+            paths: Places::new(),
             list: List::new(),
         }
     }
@@ -224,7 +229,7 @@ impl Job {
         let b = bounce_of(line)?;
         line.end()?;
         let leading = self.paths.get(p).ok_or(no_path(2))?.lambda.s0;
-        let m = self.surfaces.lent(s).ok_or(no_surface(3))?;
+        let m = self.surfaces.get(s).ok_or(no_surface(3))?.lent();
         let answer = bounce_held(&mut self.paths, p, &m, b).ok_or(no_path(2))?;
         out.labelled(b" bounce ", p);
         Ok(replies::bounced(out, answer, measure_on(&m, leading)))
@@ -238,7 +243,7 @@ impl Job {
         let wi = vec3(line)?;
         let lambda = line.number()?;
         line.end()?;
-        let m = self.surfaces.lent(s).ok_or(no_surface(2))?;
+        let m = self.surfaces.get(s).ok_or(no_surface(2))?.lent();
         out.labelled(b" density ", s);
         match counter::pdf(&m, wo, wi, reflection, lambda) {
             Err(why) => Ok(replies::refused(out, why)),

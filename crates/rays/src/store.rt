@@ -1,38 +1,38 @@
 // The surfaces and the paths that a job holds. An index past the last counts from the first again.
-ghost use Rattle.std.specs.Prelude.{◌≡◌};
-ghost use Rattle.rays.specs.Store.{path_in, keep_path};
+ghost use Rattle.std.specs.Prelude.{◌≡◌, ◌<◌, option_copied};
+ghost use Rattle.rays.specs.Store.{held_in, keep_held};
 
-use crate::sizes::{ENTRIES_READ, PATHS, SURFACES};
+use crate::sizes::ENTRIES_READ;
 use optics::microfacet::{Microsurface, Spectra, Surface};
-use path::records::Path;
 use text::faults::Fault;
 use text::line::Line;
 
-// ---- paths
+// ---- places
 
+// So many places, by their index.
 #[derive(Drop)]
-pub struct Paths {
-    pub held: [Option<Path>; PATHS],
+pub struct Places<T, const N: usize> {
+    pub held: [Option<T>; N],
 }
 
-impl Paths {
-    pub fn new() -> Paths {
-        Paths {
-            held: [None; PATHS],
-        }
+impl<T: Copy, const N: usize> Places<T, N> {
+    pub fn new() -> Places<T, N> {
+        Places { held: [None; N] }
     }
 
-    // The path `i`, if it was started.
-    pub fn get(&self, i: u64) -> Option<Path>
-        ensures { result ≡ path_in self.now.held i }
+    // What is held as `i`, if anything is.
+    pub fn get(&self, i: u64) -> Option<&T>
+        requires { 0 < N }
+        ensures { option_copied result ≡ held_in self.now.held N i }
     {
-        self.held[(i % PATHS as u64) as usize]
+        self.held[(i % N as u64) as usize].as_ref()
     }
 
-    pub fn keep(&mut self, i: u64, path: Path)
-        ensures { self.new.held ≡ keep_path self.old.held i path }
+    pub fn keep(&mut self, i: u64, x: T)
+        requires { 0 < N }
+        ensures { self.new.held ≡ keep_held self.old.held N i x }
     {
-        self.held[(i % PATHS as u64) as usize] = Some(path);
+        self.held[(i % N as u64) as usize] = Some(x);
     }
 }
 
@@ -92,7 +92,7 @@ pub struct Made {
 
 impl Made {
     // The surface with its spectra.
-    fn lent(&self) -> Microsurface<'_> {
+    pub fn lent(&self) -> Microsurface<'_> {
         Microsurface {
             surface: self.surface,
             spectra: Spectra {
@@ -101,28 +101,5 @@ impl Made {
                 outer: self.outer.as_slice(),
             },
         }
-    }
-}
-
-#[derive(Drop)]
-pub struct Surfaces {
-    made: [Option<Made>; SURFACES],
-}
-
-impl Surfaces {
-    pub fn new() -> Surfaces {
-        Surfaces {
-            made: [None; SURFACES],
-        }
-    }
-
-    // The surface `i`, if it was made.
-    pub fn lent(&self, i: u64) -> Option<Microsurface<'_>> {
-        let made = self.made[(i % SURFACES as u64) as usize].as_ref()?;
-        Some(made.lent())
-    }
-
-    pub fn keep(&mut self, i: u64, made: Made) {
-        self.made[(i % SURFACES as u64) as usize] = Some(made);
     }
 }
