@@ -1,21 +1,21 @@
 // Angles.
-use crate::words::{Input, Words};
+use crate::case::Case;
 use numbers::spherical_utils;
-use std::fs::File;
 
-// Whether the answer of the function `number` is the record's.
-pub fn replay(file: &mut File, number: u64, w: &Input) -> bool {
+// Whether the answer of the case's function is the record's.
+pub fn replay(case: &mut Case<'_>) -> bool {
+    let w = case.input;
     let a = w.vec3(0);
-    match number {
-        601 => spherical_utils::same_hemisphere(a, w.vec3(3)).same(file),
-        602 => spherical_utils::cos_phi(a).same(file),
-        603 => spherical_utils::sin_phi(a).same(file),
-        604 => spherical_utils::cos_theta(a).same(file),
-        605 => spherical_utils::sin_theta(a).same(file),
-        606 => spherical_utils::tan_theta(a).same(file),
-        607 => spherical_utils::cos2_theta(a).same(file),
-        608 => spherical_utils::sin2_theta(a).same(file),
-        609 => spherical_utils::tan2_theta(a).same(file),
+    match case.number {
+        601 => case.holds(spherical_utils::same_hemisphere(a, w.vec3(3))),
+        602 => case.holds(spherical_utils::cos_phi(a)),
+        603 => case.holds(spherical_utils::sin_phi(a)),
+        604 => case.holds(spherical_utils::cos_theta(a)),
+        605 => case.holds(spherical_utils::sin_theta(a)),
+        606 => case.holds(spherical_utils::tan_theta(a)),
+        607 => case.holds(spherical_utils::cos2_theta(a)),
+        608 => case.holds(spherical_utils::sin2_theta(a)),
+        609 => case.holds(spherical_utils::tan2_theta(a)),
         _ => false,
     }
 }

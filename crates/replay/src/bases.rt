@@ -1,20 +1,20 @@
 // Bases.
-use crate::words::{Input, Words};
+use crate::case::Case;
 use numbers::onb::Onb;
-use std::fs::File;
 
-// Whether the answer of the function `number` is the record's.
-pub fn replay(file: &mut File, number: u64, w: &Input) -> bool {
+// Whether the answer of the case's function is the record's.
+pub fn replay(case: &mut Case<'_>) -> bool {
+    let w = case.input;
     let uvw = Onb {
         u: w.vec3(0),
         v: w.vec3(3),
         w: w.vec3(6),
     };
     let v = w.vec3(9);
-    match number {
-        501 => Onb::new(uvw.u).same(file),
-        502 => uvw.to_world(v).same(file),
-        503 => uvw.to_local(v).same(file),
+    match case.number {
+        501 => case.holds(Onb::new(uvw.u)),
+        502 => case.holds(uvw.to_world(v)),
+        503 => case.holds(uvw.to_local(v)),
         _ => false,
     }
 }

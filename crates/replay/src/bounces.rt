@@ -1,10 +1,10 @@
 // Bounces: a record for each, with the path before it and the answer after it.
-use crate::words::{Input, Words};
+use crate::case::Case;
+use crate::words::Input;
 use optics::microfacet::{Microsurface, Spectra};
 use path::bsdf;
 use path::plain::BounceResult;
 use path::records::{Bounce, Path};
-use std::fs::File;
 
 fn path_of(w: &Input) -> Path {
     Path {
@@ -28,11 +28,12 @@ fn bounce_of(w: &Input) -> Bounce {
 }
 
 // Whether the answer of the bounce is the record's.
-pub fn replay(file: &mut File, w: &Input, spectra: Spectra<'_>) -> bool {
+pub fn replay(case: &mut Case<'_>, spectra: Spectra<'_>) -> bool {
+    let w = case.input;
     let m = Microsurface {
         surface: w.surface(),
         spectra,
     };
-    let answer = bsdf::bounce(path_of(w), &m, bounce_of(w));
-    BounceResult::from(answer).same(file) & answer.path().same(file)
+    let answer = bsdf::bounce(path_of(&w), &m, bounce_of(&w));
+    case.holds(BounceResult::from(answer)) & case.holds(answer.path())
 }

@@ -1,26 +1,26 @@
 // Functions of numbers that refuse. The record 800 has the entries for those after it.
-use crate::words::{Input, Words};
+use crate::case::Case;
 use numbers::checked;
-use std::fs::File;
 
-// Whether the answer of the function `number` is the record's.
-pub fn replay(file: &mut File, number: u64, w: &Input, values: &[f64]) -> bool {
+// Whether the answer of the case's function is the record's.
+pub fn replay(case: &mut Case<'_>, values: &[f64]) -> bool {
+    let w = case.input;
     let a = w.vec3(0);
     let b = w.vec3(3);
-    match number {
-        801 => checked::lookup(values, a.x).same(file),
-        802 => checked::onb(a).same(file),
-        803 => checked::to_local(a, b).same(file),
-        804 => checked::to_world(a, b).same(file),
-        805 => checked::same_hemisphere(a, b).same(file),
-        806 => checked::cos_phi(a).same(file),
-        807 => checked::sin_phi(a).same(file),
-        808 => checked::cos_theta(a).same(file),
-        809 => checked::sin_theta(a).same(file),
-        810 => checked::tan_theta(a).same(file),
-        811 => checked::cos2_theta(a).same(file),
-        812 => checked::sin2_theta(a).same(file),
-        813 => checked::tan2_theta(a).same(file),
+    match case.number {
+        801 => case.holds(checked::lookup(values, a.x)),
+        802 => case.holds(checked::onb(a)),
+        803 => case.holds(checked::to_local(a, b)),
+        804 => case.holds(checked::to_world(a, b)),
+        805 => case.holds(checked::same_hemisphere(a, b)),
+        806 => case.holds(checked::cos_phi(a)),
+        807 => case.holds(checked::sin_phi(a)),
+        808 => case.holds(checked::cos_theta(a)),
+        809 => case.holds(checked::sin_theta(a)),
+        810 => case.holds(checked::tan_theta(a)),
+        811 => case.holds(checked::cos2_theta(a)),
+        812 => case.holds(checked::sin2_theta(a)),
+        813 => case.holds(checked::tan2_theta(a)),
         _ => false,
     }
 }

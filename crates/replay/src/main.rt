@@ -3,16 +3,18 @@
 // line of each that differs.
 #![tactic(auto)]
 
+use case::Case;
 use family::Family;
 use record::Head;
 use spectrum::Spectra;
 use std::fs::File;
 use std::io;
-use words::{INS, Input};
+use words::Input;
 
 mod angles;
 mod bases;
 mod bounces;
+mod case;
 mod checked;
 mod complexes;
 mod facets;
@@ -50,20 +52,21 @@ fn print_counts(rt: &impl Print, t: &Tally) -> io::Result<()> {
     )
 }
 
-// Whether the libraries' answer is the record's.
-fn same(file: &mut File, number: u64, w: &Input, spectra: &Spectra) -> bool {
-    match number {
-        990 => bounces::replay(file, w, spectra.lent()),
-        931..=989 | 991.. => surfaces::replay(file, number, w, spectra.lent()),
-        100..=199 => scalars::replay(file, number, w),
-        200..=299 => vectors2::replay(file, number, w),
-        300..=399 => vectors3::replay(file, number, w),
-        400..=499 => complexes::replay(file, number, w),
-        500..=599 => bases::replay(file, number, w),
-        600..=699 => angles::replay(file, number, w),
-        700..=799 => spectra::replay(file, number, w, spectra.values()),
-        800..=899 => checked::replay(file, number, w, spectra.values()),
-        _ => facets::replay(file, number, w),
+// Whether the libraries' answer is the record's. By a match: a function goes by its number, which is all that the file
+// says of it.
+fn holds(case: &mut Case<'_>, spectra: &Spectra) -> bool {
+    match case.number {
+        990 => bounces::replay(case, spectra.lent()),
+        931..=989 | 991.. => surfaces::replay(case, spectra.lent()),
+        100..=199 => scalars::replay(case),
+        200..=299 => vectors2::replay(case),
+        300..=399 => vectors3::replay(case),
+        400..=499 => complexes::replay(case),
+        500..=599 => bases::replay(case),
+        600..=699 => angles::replay(case),
+        700..=799 => spectra::replay(case, spectra.values()),
+        800..=899 => checked::replay(case, spectra.values()),
+        _ => facets::replay(case),
     }
 }
 
@@ -106,10 +109,13 @@ fn step(
     if spectra.read(file, head) {
         return Ok(());
     }
-    let mut w = Input([0.0; INS]);
-    record::read_floats(file, head.ins, &mut w.0);
     begin_family(rt, t, Family::of(head.number, spectra.in_air()))?;
-    let same = same(file, head.number, &w, spectra);
+    let mut case = Case {
+        number: head.number,
+        input: Input::read(file, head.ins),
+        file,
+    };
+    let same = holds(&mut case, spectra);
     count_record(rt, t, same)
 }
 

@@ -8,8 +8,7 @@ use text::{digits, patterns};
 // What stands for a number that is none: no function has it.
 const NO_NUMBER: u64 = 100000;
 
-// What a record begins with; how many words come out is known by the function. A function goes by its number, which is
-// all that the file says of it.
+// What a record begins with; how many words come out is known by the function.
 #[derive(Clone, Copy)]
 pub struct Head {
     pub number: u64,

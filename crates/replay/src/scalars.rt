@@ -1,27 +1,27 @@
 // Floats.
-use crate::words::{Input, Words};
+use crate::case::Case;
 use floats::{float, square_root};
-use std::fs::File;
 
-// Whether the answer of the function `number` is the record's.
-pub fn replay(file: &mut File, number: u64, w: &Input) -> bool {
+// Whether the answer of the case's function is the record's.
+pub fn replay(case: &mut Case<'_>) -> bool {
+    let w = case.input;
     let x = w.float(0);
     let y = w.float(1);
     let z = w.float(2);
-    match number {
-        101 => float::max(x, y).same(file),
-        102 => float::min(x, y).same(file),
-        103 => float::clamp(x, y, z).same(file),
-        104 => float::abs(x).same(file),
-        105 => float::is_sign_negative(x).same(file),
-        106 => float::signum(x).same(file),
-        107 => float::is_infinite(x).same(file),
-        108 => float::is_finite(x).same(file),
-        109 => float::powi2(x).same(file),
-        110 => float::powi5(x).same(file),
-        111 => float::within(x, y, z).same(file),
-        112 => float::nan().same(file),
-        120 => square_root::sqrt(x).same(file),
+    match case.number {
+        101 => case.holds(float::max(x, y)),
+        102 => case.holds(float::min(x, y)),
+        103 => case.holds(float::clamp(x, y, z)),
+        104 => case.holds(float::abs(x)),
+        105 => case.holds(float::is_sign_negative(x)),
+        106 => case.holds(float::signum(x)),
+        107 => case.holds(float::is_infinite(x)),
+        108 => case.holds(float::is_finite(x)),
+        109 => case.holds(float::powi2(x)),
+        110 => case.holds(float::powi5(x)),
+        111 => case.holds(float::within(x, y, z)),
+        112 => case.holds(float::nan()),
+        120 => case.holds(square_root::sqrt(x)),
         _ => false,
     }
 }

@@ -1,19 +1,19 @@
 // Spectra. The record 700 has the entries for those after it.
-use crate::words::{Input, Words};
+use crate::case::Case;
 use numbers::dense_spectrum;
 use numbers::dense_spectrum::DenseSpectrum;
-use std::fs::File;
 
-// Whether the answer of the function `number` is the record's.
-pub fn replay(file: &mut File, number: u64, w: &Input, values: &[f64]) -> bool {
+// Whether the answer of the case's function is the record's.
+pub fn replay(case: &mut Case<'_>, values: &[f64]) -> bool {
+    let w = case.input;
     let x = w.float(0);
-    match number {
-        701 => DenseSpectrum::sample_one(values, x).same(file),
-        702 => DenseSpectrum::is_constant(values).same(file),
-        703 => dense_spectrum::all_within(values, x, w.float(1)).same(file),
-        704 => dense_spectrum::all_finite(values).same(file),
-        705 => dense_spectrum::is_wavelength(x).same(file),
-        706 => dense_spectrum::is_lookup_wavelength(x).same(file),
+    match case.number {
+        701 => case.holds(DenseSpectrum::sample_one(values, x)),
+        702 => case.holds(DenseSpectrum::is_constant(values)),
+        703 => case.holds(dense_spectrum::all_within(values, x, w.float(1))),
+        704 => case.holds(dense_spectrum::all_finite(values)),
+        705 => case.holds(dense_spectrum::is_wavelength(x)),
+        706 => case.holds(dense_spectrum::is_lookup_wavelength(x)),
         _ => false,
     }
 }

@@ -1,49 +1,48 @@
 // Functions of a whole surface, and the calls of optics that refuse.
-use crate::words::{Input, Words};
+use crate::case::Case;
 use optics::microfacet;
 use optics::microfacet::{Known, Microsurface, Spectra};
-use std::fs::File;
 
-// Whether the answer of the function `number` is the record's.
-pub fn replay(file: &mut File, number: u64, w: &Input, spectra: Spectra<'_>) -> bool {
+// Whether the answer of the case's function is the record's.
+pub fn replay(case: &mut Case<'_>, spectra: Spectra<'_>) -> bool {
+    let w = case.input;
     let m = Microsurface {
         surface: w.surface(),
         spectra,
     };
     let v = w.vec3(3);
     let u = w.vec3(6);
-    match number {
-        951 => counter::is_delta(&m).same(file),
-        952 => counter::lambda(&m, v).same(file),
-        953 => counter::chi_pass(&m, v, u).same(file),
-        954 => counter::g1(&m, v, u).same(file),
-        955 => counter::g(&m, v, u, w.vec3(9)).same(file),
-        956 => counter::d(&m, v).same(file),
-        957 => counter::disney_diffuse(&m, v.x, v.y, v.z).same(file),
-        958 => counter::f_at(&m, v, u, w.float(9)).same(file),
-        959 => counter::f(&m, v, u, w.color(9)).same(file),
+    match case.number {
+        951 => case.holds(counter::is_delta(&m)),
+        952 => case.holds(counter::lambda(&m, v)),
+        953 => case.holds(counter::chi_pass(&m, v, u)),
+        954 => case.holds(counter::g1(&m, v, u)),
+        955 => case.holds(counter::g(&m, v, u, w.vec3(9))),
+        956 => case.holds(counter::d(&m, v)),
+        957 => case.holds(counter::disney_diffuse(&m, v.x, v.y, v.z)),
+        958 => case.holds(counter::f_at(&m, v, u, w.float(9))),
+        959 => case.holds(counter::f(&m, v, u, w.color(9))),
         // the sampler has its random numbers where others have the vector u
-        960 => counter::sample_normal(&m, v, u.x, u.y, u.z).same(file),
-        961 => counter::pdf(&m, v, u, w.is_true(9), w.float(10)).same(file),
-        _ => apart(file, number, w, &m.spectra),
+        960 => case.holds(counter::sample_normal(&m, v, u.x, u.y, u.z)),
+        961 => case.holds(counter::pdf(&m, v, u, w.is_true(9), w.float(10))),
+        _ => apart(case, &m.spectra),
     }
 }
 
 // What is not a call on a whole surface: its spectra, the surface that is made, a mirror and a bend.
-fn apart(file: &mut File, number: u64, w: &Input, spectra: &Spectra<'_>) -> bool {
+fn apart(case: &mut Case<'_>, spectra: &Spectra<'_>) -> bool {
+    let w = case.input;
     let v = w.vec3(3);
     let u = w.vec3(6);
-    match number {
-        931 => Known::on_glass(spectra).eta_constant.same(file),
-        932 => microfacet::eta_at(spectra.eta, v.x).same(file),
-        933 => microfacet::k_at(spectra, v.x).same(file),
-        934 => microfacet::f(w.kind(0), spectra, v, u, w.color(9)).same(file),
-        935 => microfacet::optical_constants(w.kind(0), spectra, v.x)
-            .eta
-            .same(file),
-        962 => counter::make_surface(w.kind(0), w.float(1), spectra).same(file),
-        963 => counter::reflect(v, u).same(file),
-        964 => counter::refract(v.x, w.vec3(4), w.vec3(7)).same(file),
+    match case.number {
+        931 => case.holds(Known::on_glass(spectra).eta_constant),
+        932 => case.holds(microfacet::eta_at(spectra.eta, v.x)),
+        933 => case.holds(microfacet::k_at(spectra, v.x)),
+        934 => case.holds(microfacet::f(w.kind(0), spectra, v, u, w.color(9))),
+        935 => case.holds(microfacet::optical_constants(w.kind(0), spectra, v.x).eta),
+        962 => case.holds(counter::make_surface(w.kind(0), w.float(1), spectra)),
+        963 => case.holds(counter::reflect(v, u)),
+        964 => case.holds(counter::refract(v.x, w.vec3(4), w.vec3(7))),
         _ => false,
     }
 }

@@ -16,15 +16,19 @@ use std::fs::File;
 use text::patterns;
 
 // ---- in
-// No call takes more words.
-pub const INS: usize = 30;
-
-// The words that go into a call.
+// The words that go into a call, and zeros behind them: no call takes more.
 #[derive(Clone, Copy)]
-pub struct Input(pub [f64; INS]);
+pub struct Input([f64; 30]);
 
 // What stands in the words from the i-th on.
 impl Input {
+    // The next `ins` words of the file.
+    pub fn read(file: &mut File, ins: u64) -> Input {
+        let mut words = [0.0; 30];
+        record::read_floats(file, ins, &mut words);
+        Input(words)
+    }
+
     pub fn float(&self, i: usize) -> f64
         requires { i < 30 }
     {
