@@ -49,6 +49,7 @@ impl Facet {
     }
 
     // q: the share of the light that the facets let through to `wi`, and 1 where the surface scatters into one direction.
+    #[tactic(auto, using(optics::proofs::SharedTerms::g_over_g1_at_lem), unfolding(crate::specs::Bounce::shadowing))]
     fn shadowing(self, wi: Vec3) -> f64
         ensures { result ≡ shadowing self.view.one_direction self.view.mfd.roughness self.view.wo wi self.wh }
     {

@@ -7,7 +7,7 @@ ghost use Rattle.path.specs.Plain.{density_record, shares_record, bounce_result}
 use crate::records::{Bounced, Shares};
 use numbers::vec3::Vec3;
 
-// `finite` is 1 where there is a density and it is finite, else 0.
+// `finite` is 1 where there is a density and it is finite, else 0. By hand: C has no Option.
 #[repr(C)]
 #[derive(Clone, Copy)]
 pub struct DensityRecord {
@@ -15,7 +15,7 @@ pub struct DensityRecord {
     pub value: f64,
 }
 
-// `given` is 1 on glass, which has shares, else 0.
+// `given` is 1 on glass, which has shares, else 0. By hand: C has no Option.
 #[repr(C)]
 #[derive(Clone, Copy)]
 pub struct SharesRecord {
@@ -24,7 +24,7 @@ pub struct SharesRecord {
     pub passed: f64,
 }
 
-// The cases of an answer, by the number that `outcome` is.
+// The cases of an answer, each with the number that C knows it by.
 #[derive(Clone, Copy, PartialEq, Eq, Debug)]
 enum Case {
     Refused = 0,
@@ -33,7 +33,7 @@ enum Case {
     Passed = 3,
 }
 
-// `outcome` is 0 refused, 1 lost, 2 reflected, 3 passed.
+// `outcome` is a `Case`. By hand: C's record holds the numbers.
 #[repr(C)]
 #[derive(Clone, Copy)]
 pub struct BounceResult {
