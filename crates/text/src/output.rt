@@ -30,7 +30,7 @@ fn glyph(d: u8) -> u8 {
     }
 }
 
-// The 16 hexadecimal digits of some bits.
+// The 16 hexadecimal digits of some bits. By hand: with `{:016x}` a job of bounces takes a tenth more time.
 fn hex16(bits: u64) -> [u8; 16] {
     let mut digits = [0; 16];
     let mut rest = bits;
