@@ -1,6 +1,6 @@
 -- A term that is computed once and handed on changes nothing: from it each form of specs/SharedTerms.antt is its formula.
--- The cosine wo · wh stands for wh · wo, by `dot_comm`. Where a surface scatters into one direction nothing reads Λ(wo),
--- so that it is right elsewhere (`density-seen`), nor on glass the density of the normal (`normal_unread`).
+-- The cosine wo · wh stands for wh · wo, by `dot_comm`. Where a surface scatters into one direction its density doesn't read Λ(wo), so
+-- that any number does there (`metal-density`, `glass-density`), nor on glass the density of the normal (`normal_unread`).
 use Rattle.std.proofs.Common.{◌≡◌, refl, ap, ◌∙◌, Bool, true, false, cond, List, Float}
 use lib.Ieee.{neg, lt, eq}
 use Rattle.floats.specs.Float.{◌⊕◌, ◌⊘◌, f0, f1}
@@ -8,13 +8,13 @@ use Rattle.numbers.specs.SphericalUtils.{sin_theta, cos_phi, sin_phi}
 use Rattle.numbers.specs.Vec3.{negate, dot}
 use Rattle.numbers.specs.declared.vec2.Vec2.{Vec2}
 use Rattle.numbers.specs.declared.vec3.Vec3.{Vec3}
-use Rattle.optics.specs.Facets.{lambda, chi_pass, masked, g1, g, g_over_g1, sample_normal_pdf}
+use Rattle.optics.specs.Facets.{is_delta, lambda, chi_pass, masked, g1, g, g_over_g1, sample_normal_pdf}
 use Rattle.numbers.specs.DenseSpectrum.{step_of, is_constant}
 use Rattle.optics.specs.Color.{Color}
 use Rattle.optics.specs.Surface.{Metal, Glass, Outside, medium, k_from, eta_at, k_at, outer_at, index_on}
 use Rattle.optics.specs.Fresnel.{index_from, sin2_i, cos_i, fr_facing, fr_real, fresnel, f_at, f}
-use Rattle.optics.specs.Bxdf.{refract_facing, refract, Scattered, dielectric_from}
-use Rattle.optics.specs.Density.{reflected_pdf, passed_pdf, dielectric_pdf_from}
+use Rattle.optics.specs.Bxdf.{refract_facing, refract, Scattered, is_smooth, dielectric_from}
+use Rattle.optics.specs.Density.{conductor_half, conductor_pdf_from, conductor_pdf, eta_ratio, dielectric_half, reflected_pdf, passed_pdf, dielectric_pdf_from, dielectric_pdf}
 use Rattle.optics.specs.SharedTerms.{Snell, azimuth, chi_pass_at, g1_at, g_over_g1_at, sample_normal_pdf_at, snell, fr_real_from, fresnel_from, refract_facing_from, refract_from, dielectric_from_snell, outer_from, quotient_from, f_metal_from, f_glass_from}
 use Rattle.optics.specs.Known.{Known, reading_on_glass, known_on_glass}
 use Rattle.optics.proofs.Cosine.{dot_comm, sin2_abs, sin2_neg}
@@ -94,10 +94,28 @@ pub normal-density : (a : Vec2) (wh wo : Vec3) → sample_normal_pdf_at a (lambd
 unfolding sample_normal_pdf_at sample_normal_pdf
 normal-density a wh wo = rw (g1_at_lem a wo wh, dot_comm wh wo)
 
--- from the Λ(wo) of a view, where light doesn't scatter into one direction
-pub density-seen : (a : Vec2) (wo wh : Vec3) (one : Bool) → one ≡ false → (λwo : Float) → λwo ≡ cond one f0 (lambda a wo)
-    → (c : Float) → c ≡ dot wo wh → (x : Float) → x ≡ sample_normal_pdf_at a λwo c wh wo → x ≡ sample_normal_pdf a wh wo
-density-seen a wo wh one o λwo l c d x e = rw (e, l, o, d) (normal-density a wh wo)
+-- wh takes wo to wi. From any number l where the surface is delta, else from Λ(wo)
+pub metal-density : (a : Vec2) (l : Float) (wo wi : Vec3) → (λwo : Float) → λwo ≡ cond (is_delta a) l (lambda a wo) → (wh : Vec3) → wh ≡ conductor_half wo wi
+    → conductor_pdf_from (sample_normal_pdf_at a λwo (dot wo wh) wh wo) (is_delta a) wo wi wh ≡ conductor_pdf a wo wi
+unfolding conductor_pdf conductor_pdf_from
+metal-density a l wo wi λwo e wh h = rw (e, ← h) (go (is_delta a))
+  where
+    go : (delta : Bool) → conductor_pdf_from (sample_normal_pdf_at a (cond delta l (lambda a wo)) (dot wo wh) wh wo) delta wo wi wh
+        ≡ conductor_pdf_from (sample_normal_pdf a wh wo) delta wo wi wh
+    go true = refl
+    go false = rw (normal-density a wh wo)
+
+-- and where the glass is smooth
+pub glass-density : (a : Vec2) (l eta k : Float) (reflection : Bool) (wo wi : Vec3) → (λwo : Float) → λwo ≡ cond (is_smooth a eta) l (lambda a wo)
+    → (ratio : Float) → ratio ≡ eta_ratio reflection wo eta → (wh : Vec3) → wh ≡ dielectric_half eta ratio wo wi
+    → dielectric_pdf_from (sample_normal_pdf_at a λwo (dot wo wh) wh wo) (is_smooth a eta) eta k ratio reflection wo wi wh ≡ dielectric_pdf a eta k reflection wo wi
+unfolding dielectric_pdf dielectric_pdf_from reflected_pdf passed_pdf
+glass-density a l eta k reflection wo wi λwo e ratio er wh h = rw (e, ← er, ← h) (go (is_smooth a eta))
+  where
+    go : (smooth : Bool) → dielectric_pdf_from (sample_normal_pdf_at a (cond smooth l (lambda a wo)) (dot wo wh) wh wo) smooth eta k ratio reflection wo wi wh
+        ≡ dielectric_pdf_from (sample_normal_pdf a wh wo) smooth eta k ratio reflection wo wi wh
+    go true = refl
+    go false = rw (normal-density a wh wo)
 
 -- smooth glass doesn't read the density of the normal: any number l does
 pub normal_unread : (n l eta k ratio : Float) (smooth reflection : Bool) (wo wi wh : Vec3)

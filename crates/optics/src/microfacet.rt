@@ -432,12 +432,11 @@ pub struct View {
     pub wo: Vec3,
     pub one_direction: bool,
     pub lambda_wo: f64,
-    pub ghost lambda_is: { lambda_wo ≡ cond one_direction f0 (lambda mfd.roughness wo) },
 }
 
 impl View {
     pub fn new(mfd: Ggx, one_direction: bool, wo: Vec3) -> View
-        ensures { (result.mfd ≡ mfd) × (result.wo ≡ wo) × (result.one_direction ≡ one_direction) }
+        ensures { (result.mfd ≡ mfd) × (result.wo ≡ wo) × (result.one_direction ≡ one_direction) × (result.lambda_wo ≡ cond one_direction f0 (lambda mfd.roughness wo)) }
     {
         View {
             mfd,

@@ -1,7 +1,8 @@
 // The facet that a bounce meets, with what is read of it more than once: how `wo` sees the facets, and the cosine wo · wh.
-ghost use Rattle.std.specs.Prelude.{◌≡◌};
+ghost use Rattle.std.specs.Prelude.{◌≡◌, cond};
+ghost use Rattle.floats.specs.Float.{f0};
 ghost use Rattle.numbers.specs.Vec3.{dot};
-ghost use Rattle.optics.specs.Facets.{is_delta};
+ghost use Rattle.optics.specs.Facets.{is_delta, lambda};
 ghost use Rattle.optics.specs.Bxdf.{is_smooth};
 ghost use Rattle.optics.specs.Density.{conductor_pdf, dielectric_pdf};
 ghost use Rattle.path.specs.Bounce.{shadowing};
@@ -15,6 +16,7 @@ pub(crate) struct Facet {
     view: View,
     wh: Vec3,
     pub(crate) wo_dot_wh: f64,
+    ghost is_lambda: { view.lambda_wo ≡ cond view.one_direction f0 (lambda view.mfd.roughness view.wo) },
     ghost is_cosine: { wo_dot_wh ≡ dot view.wo wh },
 }
 

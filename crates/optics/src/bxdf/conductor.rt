@@ -1,7 +1,8 @@
 // Microfacet conductor.
 ghost use Rattle.std.specs.Prelude.{◌≡◌};
+ghost use Rattle.numbers.specs.Vec3.{dot};
 ghost use Rattle.optics.specs.Bxdf.{sampled, conductor_normal, conductor_from, conductor_sample};
-ghost use Rattle.optics.specs.Facets.{sample_normal_pdf};
+ghost use Rattle.optics.specs.SharedTerms.{sample_normal_pdf_at};
 ghost use Rattle.optics.specs.Density.{conductor_half, conductor_pdf_from, conductor_pdf};
 
 use crate::bxdf;
@@ -54,7 +55,6 @@ pub fn sample(wo: Vec3, mfd: Ggx, disk: f64, c: f64, s: f64) -> Sampled
     sample_from(wo, mfd, normal(wo, mfd, disk, c, s))
 }
 
-#[tactic(auto, unfolding(crate::specs::Density::conductor_pdf))]
 pub fn pdf(wo: Vec3, wi: Vec3, mfd: Ggx) -> f64
     ensures { result ≡ conductor_pdf mfd.roughness wo wi }
 {
@@ -72,7 +72,7 @@ pub fn half(wo: Vec3, wi: Vec3) -> Vec3
 // `pdf` with the normal that takes `wo` to `wi` at hand.
 #[tactic(auto, unfolding(crate::specs::Density::conductor_pdf_from))]
 pub fn pdf_at(view: View, wi: Vec3, wh: Vec3) -> f64
-    ensures { result ≡ conductor_pdf_from (sample_normal_pdf view.mfd.roughness wh view.wo) view.one_direction view.wo wi wh }
+    ensures { result ≡ conductor_pdf_from (sample_normal_pdf_at view.mfd.roughness view.lambda_wo (dot view.wo wh) wh view.wo) view.one_direction view.wo wi wh }
 {
     // check if in same hemisphere or perpendicular to normal
     if spherical_utils::same_hemisphere(wi, view.wo) {

@@ -3,9 +3,8 @@ ghost use Rattle.std.specs.Prelude.{◌≡◌, cond};
 ghost use Rattle.floats.specs.Float.{f0};
 ghost use Rattle.optics.specs.Bxdf.{sampled, is_smooth, reflects, dielectric_normal, dielectric_sample};
 ghost use Rattle.numbers.specs.Vec3.{dot};
-ghost use Rattle.optics.specs.Facets.{sample_normal_pdf};
 ghost use Rattle.optics.specs.Density.{eta_ratio, dielectric_half, is_discarded, reflected_pdf, passed_pdf, dielectric_pdf_from, dielectric_pdf};
-ghost use Rattle.optics.specs.SharedTerms.{dielectric_from_snell};
+ghost use Rattle.optics.specs.SharedTerms.{sample_normal_pdf_at, dielectric_from_snell};
 
 use crate::bxdf;
 use crate::bxdf::{Refracted, Sampled};
@@ -85,7 +84,6 @@ pub fn sample(
     sample_from(snell, wo, wh, pr, rand_u)
 }
 
-#[tactic(auto, unfolding(crate::specs::Density::dielectric_pdf))]
 pub fn pdf(wo: Vec3, wi: Vec3, reflection: bool, mfd: Ggx, eta: f64, k: f64) -> f64
     ensures { result ≡ dielectric_pdf mfd.roughness eta k reflection wo wi }
 {
@@ -130,7 +128,7 @@ pub fn pdf_at(
     at: OpticalConstants,
     ratio: f64,
 ) -> f64
-    ensures { result ≡ dielectric_pdf_from (sample_normal_pdf view.mfd.roughness wh view.wo) view.one_direction at.eta at.k ratio reflection view.wo wi wh }
+    ensures { result ≡ dielectric_pdf_from (sample_normal_pdf_at view.mfd.roughness view.lambda_wo (dot view.wo wh) wh view.wo) view.one_direction at.eta at.k ratio reflection view.wo wi wh }
 {
     let facet = Facet::new(view, wi, wh);
     if facet.is_discarded() {
@@ -189,7 +187,7 @@ impl Facet {
 
     // The density of the facet's normal: 0 where the glass is smooth, since nothing reads it there.
     fn normal_pdf(self) -> f64
-        ensures { result ≡ cond self.view.one_direction f0 (sample_normal_pdf self.view.mfd.roughness self.wh self.view.wo) }
+        ensures { result ≡ cond self.view.one_direction f0 (sample_normal_pdf_at self.view.mfd.roughness self.view.lambda_wo self.wh_dot_wo self.wh self.view.wo) }
     {
         if self.view.one_direction {
             return 0.0;

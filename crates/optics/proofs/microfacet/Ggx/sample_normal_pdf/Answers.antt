@@ -1,9 +1,8 @@
--- `optics::microfacet::Ggx::sample_normal_pdf` meets its contract: it is the view's, from Λ(wo) and wo · wh, by `density-seen`.
-use Rattle.optics.proofs.SharedTerms.{density-seen}
+-- `optics::microfacet::Ggx::sample_normal_pdf` meets its contract: it is the view's, from Λ(wo) and wo · wh, by `normal-density`.
+use Rattle.optics.proofs.SharedTerms.{normal-density}
 use Rattle.optics.proofs.microfacet.Ggx.sample_normal_pdf.Goals as goal
 
 pub returns : goal.returns
 returns c =
-    let view = c.new.ensures in
-    rw (← view.0, ← view.1)
-    (density-seen _ _ _ _ view.2 _ c.new.result.lambda_is _ (rw (← view.1) at c.dot.ensures) _ c.sample_normal_pdf.ensures)
+    let v = c.new.ensures in
+    rw (c.sample_normal_pdf.ensures, v.3, c.dot.ensures, v.0, v.1) (normal-density _ _ _)

@@ -1,11 +1,12 @@
--- `path::facet::Facet::seen_on_metal` meets its contract: the calls give what their contracts promise, and the definition is read in the same order.
-use Rattle.optics.specs.Density.{conductor_pdf}
+-- `path::facet::Facet::seen_on_metal` meets its contract: the calls give what their contracts promise, and Λ(wo) handed on changes nothing, by `metal-density`.
+use Rattle.floats.specs.Float.{f0}
+use Rattle.optics.proofs.SharedTerms.{metal-density}
 use Rattle.path.proofs.facet.Facet.seen_on_metal.Goals as goal
 
 pub returns : goal.returns
-unfolding conductor_pdf
 returns c =
-    let one = c.requires in (
-      rw (c.pdf_at-pdf.ensures, one, c.half-half.ensures),
+    let one = c.requires in
+    let facet = c.args.self in (
+      rw (c.pdf_at-pdf.ensures, one) (metal-density _ f0 _ _ _ (rw (← one) facet.is_lambda) _ c.half-half.ensures),
       rw (c.shadowing-q.ensures, one),
     )
