@@ -1,5 +1,6 @@
 // The calls at the counter (document 01): each checks what it is handed, in 01's order, and answers a value or the
 // refusal. A surface comes with the spectra that are lent for it, and its fields are checked first.
+// By hand: the calls differ in what they are handed, and so in their checks; one function over closures is no plainer.
 #![tactic(auto)]
 
 ghost use Rattle.std.specs.Prelude.{◌≡◌};

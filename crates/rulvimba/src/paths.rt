@@ -9,6 +9,7 @@ use path::bsdf;
 use path::plain::BounceResult;
 use path::records::{Bounce, Bounced, Path};
 
+// By hand, as path::many reads 8 doubles of its 27: one function for both asks for a length, and no public one asks.
 fn load(numbers: &[f64; 8]) -> Path
     ensures { result ≡ path_in numbers.now }
 {
