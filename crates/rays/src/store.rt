@@ -38,7 +38,8 @@ impl<T: Copy, const N: usize> Places<T, N> {
 
 // ---- surfaces
 
-// The entries of a spectrum: the first `count` of the values.
+// The entries of a spectrum: the first `count` of the values. By hand: a job takes fixed memory, and a Vec would
+// allocate.
 #[derive(Clone, Copy)]
 pub struct Entries {
     values: [f64; ENTRIES_READ],

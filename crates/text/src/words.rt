@@ -2,6 +2,7 @@
 // word would begin ends the line.
 ghost use Rattle.std.specs.Prelude.{◌-◌, ◌≡◌, cond, [], leb, length, take, drop};
 
+// By hand: `is_ascii_whitespace` takes a line feed and a form feed besides, which are no blanks of a job.
 pub(crate) fn is_blank(b: u8) -> bool {
     b == b' ' || b == b'\t' || b == b'\r'
 }
