@@ -11,7 +11,8 @@ ghost use Rattle.optics.specs.Bxdf.{reflected, refracted, reflect, refract};
 ghost use Rattle.optics.specs.Density.{on_z_side, at_z, pdf_of};
 ghost use Rattle.optics.specs.SharedTerms.{refract_facing_from, refract_from};
 
-// What a bend answers: `Total` at total internal reflection.
+// What a bend answers: `Total` at total internal reflection. By hand: there are two ways to give no direction, which
+// C's answer tells apart, and an Option in a Result would say no more than the names.
 #[derive(Clone, Copy)]
 pub enum Refracted {
     Direction(Vec3),
@@ -19,7 +20,7 @@ pub enum Refracted {
     Total,
 }
 
-// What a sampler answers: a direction, and whether it is a reflection.
+// What a sampler answers: a direction, and whether it is a reflection. By hand, as `Refracted`.
 #[derive(Clone, Copy)]
 pub enum Sampled {
     Direction { wi: Vec3, reflection: bool },

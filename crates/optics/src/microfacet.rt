@@ -168,7 +168,8 @@ pub fn k_at(spectra: &Spectra<'_>, wl: f64) -> f64
     DenseSpectrum::sample_from(spectra.k, GridPoint::new(step, wl))
 }
 
-// The index and the absorption coefficient: `eta` is on glass already divided by what lies outside.
+// The index and the absorption coefficient: `eta` is on glass already divided by what lies outside. By hand, the
+// functions that C and the comparison call by themselves take the two one by one, as lumo's do.
 #[derive(Clone, Copy)]
 pub struct OpticalConstants {
     pub eta: f64,
@@ -406,7 +407,8 @@ impl Ggx {
     }
 
     // Sampling microfacet normals (Heitz 2018) for importance sampling. `wo` in shading space;
-    // `disk` is the disk number, `c` and `s` the cosine and the sine of the disk's angle.
+    // `disk` is the disk number, `c` and `s` the cosine and the sine of the disk's angle. By hand, one by one: so C hands
+    // them over, in its calls and in the record of a bounce.
     #[tactic(auto, unfolding(crate::specs::Sampler::sample_normal))]
     pub fn sample_normal(self, wo: Vec3, disk: f64, c: f64, s: f64) -> Vec3
         ensures { result ≡ sample_normal self.roughness wo disk c s }
