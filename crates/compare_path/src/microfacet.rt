@@ -11,14 +11,6 @@ use optics::color::Color;
 use optics::microfacet;
 use optics::microfacet::{Ggx, Kind, Known, Spectra};
 
-// A number that is no kind's reads as glass, as the definition has it.
-#[tactic(auto, unfolding(optics::specs::Surface::kind_read, optics::specs::Surface::kind_of))]
-fn kind_of(code: u64) -> Kind
-    ensures { result ≡ kind_of code }
-{
-    Kind::try_from(code).unwrap_or(Kind::Glass)
-}
-
 // Whether eta counts as constant, on glass.
 #[tactic(auto, unfolding(optics::specs::Surface::constant_eta, optics::specs::Known::known_on_glass))]
 #[unsafe(no_mangle)]
@@ -48,7 +40,7 @@ pub extern "C" fn optics_k_at(eta: &[f64], k: &[f64], wl: f64) -> f64
 pub extern "C" fn optics_index_on(kind: u64, eta: &[f64], k: &[f64], outer: &[f64], wl: f64) -> f64
     ensures { result ≡ index_on (kind_of kind) eta.now (medium outer.now) wl }
 {
-    microfacet::optical_constants(kind_of(kind), &Spectra { eta, k, outer }, wl).eta
+    microfacet::optical_constants(Kind::of_code(kind), &Spectra { eta, k, outer }, wl).eta
 }
 
 #[unsafe(no_mangle)]
@@ -170,5 +162,5 @@ pub extern "C" fn optics_f(
 ) -> Color
     ensures { result ≡ f (kind_of kind) eta.now k.now (medium outer.now) wo wh lambda }
 {
-    microfacet::f(kind_of(kind), &Spectra { eta, k, outer }, wo, wh, lambda)
+    microfacet::f(Kind::of_code(kind), &Spectra { eta, k, outer }, wo, wh, lambda)
 }

@@ -7,7 +7,7 @@ ghost use Rattle.numbers.specs.GridPoint.{sample_from};
 ghost use Rattle.optics.specs.Facets.{is_delta, lambda, chi_pass, g1, g, g_over_g1, d, sample_normal_pdf, f_schlick, disney_diffuse};
 ghost use Rattle.optics.specs.SharedTerms.{azimuth, chi_pass_at, g1_at, g_over_g1_at, sample_normal_pdf_at, snell, fr_real_from, fresnel_from, quotient_from, f_metal_from, f_glass_from};
 ghost use Rattle.optics.specs.Fresnel.{index_from, fr_real, complex_cos_i, r_par, r_per, fr_complex_facing, fr_complex, fresnel, f_at, f};
-ghost use Rattle.optics.specs.Surface.{kind_code, kind_read, medium, eta_from, k_from, eta_at, k_at, quotient, index_on};
+ghost use Rattle.optics.specs.Surface.{kind_code, kind_of, kind_read, medium, eta_from, k_from, eta_at, k_at, quotient, index_on};
 ghost use Rattle.optics.specs.Known.{reading_on_glass, known_on_glass};
 ghost use Rattle.optics.specs.Sampler.{viewed, tangent, on_hemisphere, combined, unstretched, sample_normal};
 
@@ -56,6 +56,16 @@ impl TryFrom<u64> for Kind {
             1 => Ok(Kind::Glass),
             _ => Err(UnknownKind),
         }
+    }
+}
+
+impl Kind {
+    // The kind of a code. A number that is none reads as glass: who takes one refuses it.
+    #[tactic(auto, unfolding(crate::specs::Surface::kind_read, crate::specs::Surface::kind_of))]
+    pub fn of_code(code: u64) -> Kind
+        ensures { result ≡ kind_of code }
+    {
+        Kind::try_from(code).unwrap_or(Kind::Glass)
     }
 }
 
