@@ -1,10 +1,8 @@
 -- Laws of the definitions of many bounces: which numbers a bounce has (`read`), how long the numbers are, and that one more bounce is stored after those before it (`stored`).
-use Rattle.std.proofs.Common.{◌≡◌, ℕ, zero, suc, ◌+◌, ◌-◌, ◌*◌, ◌<◌, ◌≤◌, List, [], ◌++◌, get_or, length, take, drop, sym, refl, ap, ◌∙◌, add-one, arith, length-append, drop-drop, take_at}
+use Rattle.std.proofs.Common.{◌≡◌, ℕ, zero, suc, ◌+◌, ◌*◌, ◌<◌, ◌≤◌, List, [], ◌++◌, get_or, length, take, drop, sym, refl, ap, ◌∙◌, add-one, arith, length-append, drop-drop, take_at}
 use lib.Ieee.{Float}
 use Rattle.std.specs.Simd.{first_chunks}
 use Rattle.std.proofs.lemmas.List.{get_or-take}
-use Rattle.std.proofs.lemmas.Slice.{put_mid-paste}
-use borrow.Rule.Slice.PartMut.{put_mid}
 use lib.Seq.{paste, drop-append-add}
 use Rattle.optics.specs.Surface.{Microsurface}
 use Rattle.path.specs.Many.{result_numbers, numbers_out, bounced, bounced_at, all_bounced}
@@ -24,13 +22,9 @@ pub read : (m : Microsurface) (input : List Float) (parts : List (List Float)) (
 unfolding bounced_at
 read m input parts k n i e below room = ap (λ (l : List Float). bounced m l) (get_or-take n parts i [] below ∙ ap (λ (l : List (List Float)). get_or l i []) e ∙ part k input i (omega arith))
 
-length-bounced : (m : Microsurface) (xs : List Float) → length (bounced m xs) ≡ 18
-unfolding bounced numbers_out result_numbers
-length-bounced m xs = refl
-
 length-bounced_at : (m : Microsurface) (input : List Float) (n : ℕ) → length (bounced_at m input n) ≡ 18
-unfolding bounced_at
-length-bounced_at m input n = length-bounced m (take 27 (drop (27 * n) input))
+unfolding bounced_at bounced numbers_out result_numbers
+length-bounced_at m input n = refl
 
 -- what a list of 18 is, cut at 18
 all_18 : (m : Microsurface) (input : List Float) (n : ℕ) → take 18 (bounced_at m input n) ≡ bounced_at m input n
@@ -76,10 +70,11 @@ one_more m input output n =
     ∙ last m input output n
 
 -- and so after a turn of the loop
-pub stored : (m : Microsurface) (input output now new : List Float) (i : ℕ)
-    → now ≡ all_bounced m input i ++ drop (18 * i) output → new ≡ bounced_at m input i
-    → put_mid (18 * i) (18 * i + 18 - 18 * i) now new ≡ all_bounced m input (i + 1) ++ drop (18 * (i + 1)) output
-stored m input output now new i e f =
-    put_mid-paste (18 * i) (18 * i + 18 - 18 * i) now new (bounced_at m input i) 18 f (omega arith) (sym (length-bounced_at m input i))
+pub stored : (m : Microsurface) (input output now next numbers : List Float) (i : ℕ)
+    → now ≡ all_bounced m input i ++ drop (18 * i) output → next ≡ paste now (18 * i) numbers 18 → numbers ≡ bounced_at m input i
+    → next ≡ all_bounced m input (i + 1) ++ drop (18 * (i + 1)) output
+stored m input output now next numbers i e f g =
+    f
+    ∙ ap (λ (l : List Float). paste now (18 * i) l 18) g
     ∙ ap (λ (l : List Float). paste l (18 * i) (bounced_at m input i) 18) e
     ∙ one_more m input output i

@@ -1,6 +1,7 @@
 // Many bounces on one surface, from an array of doubles to another: the surface is checked once, before
 // the first. Each bounce has a path of its own: 27 doubles in, 18 out.
 ghost use Rattle.std.specs.Prelude.{◌≡◌, ◌+◌, ◌*◌, ◌≤◌, ◌++◌, length, drop};
+ghost use Rattle.std.proofs.Math.Seq.{paste};
 ghost use Rattle.optics.specs.Color.{color};
 ghost use Rattle.numbers.specs.Vec3.{vec3};
 ghost use Rattle.path.specs.Answer.{outcome};
@@ -113,6 +114,17 @@ fn one(m: &Prepared<'_, '_>, numbers: &[f64; IN]) -> [f64; OUT]
     numbers_out(bsdf::bounce_on(m, path_in(numbers), bounce_in(numbers)))
 }
 
+// Stores a bounce's numbers from `at` on. By hand: copy_from_slice goes through memory and calls memcpy, which takes 3 in
+// 100 of a bounce.
+fn put(output: &mut [f64], at: usize, numbers: &[f64; OUT])
+    requires { at + 18 ≤ length output.old }
+    ensures { output.new ≡ paste output.old at numbers.now 18 }
+{
+    for (j, x) in numbers.iter().enumerate() {
+        output[at + j] = *x;
+    }
+}
+
 // The first `n` bounces.
 fn run(m: &Prepared<'_, '_>, input: &[f64], output: &mut [f64], n: usize)
     requires { (27 * n ≤ length input.now) × (18 * n ≤ length output.old) }
@@ -120,7 +132,7 @@ fn run(m: &Prepared<'_, '_>, input: &[f64], output: &mut [f64], n: usize)
 {
     let (records, _) = input.as_chunks::<IN>();
     for (i, numbers) in records[..n].iter().enumerate() {
-        output[OUT * i..OUT * i + OUT].copy_from_slice(&one(m, numbers));
+        put(output, OUT * i, &one(m, numbers));
     }
 }
 

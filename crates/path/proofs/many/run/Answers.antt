@@ -12,5 +12,5 @@ loop-i-init c = refl
 pub loop-i-preserved : goal.loop-i-preserved
 loop-i-preserved c =
     let args = c.args in
-    stored args.m.now.surface.now args.input.now args.output.now c.loop-i.output _ c.loop-i.i c.loop-i.invariant
-    (c.copy_from_slice.ensures.after ∙ c.one.ensures ∙ read _ args.input.now _ _ args.n _ c.as_chunks.ensures.front (grind (arith, common_steps)) (omega arith))
+    stored args.m.now.surface.now args.input.now args.output.now c.loop-i.output _ _ c.loop-i.i c.loop-i.invariant c.put.ensures
+    (c.one.ensures ∙ read _ args.input.now _ _ args.n _ c.as_chunks.ensures.front (grind (arith, common_steps)) (omega arith))
