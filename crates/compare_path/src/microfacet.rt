@@ -162,5 +162,11 @@ pub extern "C" fn optics_f(
 ) -> Color
     ensures { result ≡ f (kind_of kind) eta.now k.now (medium outer.now) wo wh lambda }
 {
-    microfacet::f(Kind::of_code(kind), &Spectra { eta, k, outer }, wo, wh, lambda)
+    microfacet::f(
+        Kind::of_code(kind),
+        &Spectra { eta, k, outer },
+        wo,
+        wh,
+        lambda,
+    )
 }

@@ -110,6 +110,7 @@ impl From<f64> for Complex {
     }
 }
 
+// By hand: std's traits are for one operator and one type of operand each.
 impl Add for Complex {
     type Output = Complex;
 

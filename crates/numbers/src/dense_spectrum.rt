@@ -17,7 +17,8 @@ pub const LAMBDA_MAX: f64 = 830.0;
 // The last wavelength that is accepted: for now where the table ends.
 pub const ACCEPTED_MAX: f64 = LAMBDA_MAX;
 
-// Spectrum sampled at 5nm or at 1nm steps from 360nm to 830nm
+// Spectrum sampled at 5nm or at 1nm steps from 360nm to 830nm. By hand, with no entries of its own: they are the
+// slice that the caller lends.
 #[derive(Clone, Copy)]
 pub struct DenseSpectrum {}
 

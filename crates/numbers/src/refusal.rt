@@ -25,7 +25,7 @@ pub enum Refusal {
 pub type Check = Result<(), Refusal>;
 
 impl Refusal {
-    // The number of the refusal.
+    // The number of the refusal. By hand: `why.number()` says what it is, which `u64::from(why)` would not.
     #[tactic(auto, unfolding(crate::specs::Refusal::number))]
     pub fn number(self) -> u64
         ensures { result ≡ number self }

@@ -1,5 +1,6 @@
 // Metal and glass with facets: the GGX half of lumo's microfacet model, its Fresnel term, sampler,
-// mirror, bend and densities. Every public function equals a definition of specs/, for every input;
+// mirror, bend and densities. Every public function equals a definition of specs/, for every input
+// (`Color`'s three say what the closure may give that they are handed);
 // what document 01 asks of an argument stands in `check`, the calls that refuse in the crate `counter`.
 #![tactic(auto)]
 

@@ -60,7 +60,7 @@ impl TryFrom<u64> for Kind {
 }
 
 impl Kind {
-    // The kind of a code. A number that is none reads as glass: who takes one refuses it.
+    // The kind of a code. A number that is none reads as glass.
     #[tactic(auto, unfolding(crate::specs::Surface::kind_read, crate::specs::Surface::kind_of))]
     pub fn of_code(code: u64) -> Kind
         ensures { result ≡ kind_of code }
@@ -179,7 +179,7 @@ pub fn k_at(spectra: &Spectra<'_>, wl: f64) -> f64
 }
 
 // The index and the absorption coefficient: `eta` is on glass already divided by what lies outside. By hand, the
-// functions that C and the comparison call by themselves take the two one by one, as lumo's do.
+// functions that the comparison calls by themselves take the two one by one, as lumo's do.
 #[derive(Clone, Copy)]
 pub struct OpticalConstants {
     pub eta: f64,
@@ -216,7 +216,7 @@ impl OpticalConstants {
     }
 }
 
-// Both at one wavelength.
+// The index and k at one wavelength, on either kind.
 #[tactic(auto, unfolding(crate::specs::Surface::index_on, crate::specs::Surface::eta_at, crate::specs::Surface::k_at, crate::specs::Surface::outer_at, crate::specs::SharedTerms::quotient_from, crate::specs::SharedTerms::outer_from, crate::specs::Known::reading_on_glass))]
 pub fn optical_constants(kind: Kind, spectra: &Spectra<'_>, wl: f64) -> OpticalConstants
     ensures { (result.eta ≡ index_on kind spectra.now.eta (medium spectra.now.outer) wl) × (result.k ≡ k_at spectra.now.eta spectra.now.k wl) }
@@ -437,7 +437,7 @@ impl Ggx {
 }
 
 // The facets as `wo` sees them: Λ(wo), two roots, is worked once for all that read it. Where the surface scatters into
-// one direction nothing does, and it is 0.
+// one direction nothing does, and it is 0. By hand, a flag with a number: the definitions read the two apart.
 #[derive(Clone, Copy)]
 pub struct View {
     pub mfd: Ggx,

@@ -16,12 +16,12 @@ use optics::color::Color;
 use optics::microfacet::Microsurface;
 use std::num::nearest_u64_to_f64;
 
-// How many doubles a bounce takes and gives.
+// How many doubles a bounce takes and gives. By hand, arrays of doubles: so C hands them over.
 const IN: usize = 27;
 
 const OUT: usize = 18;
 
-// Whether a number stands for true: any but 0 does.
+// Whether a number stands for true: any but 0 does. By hand: in C's array a flag is a double.
 #[tactic(auto, unfolding(crate::specs::Many::is_set))]
 fn is_set(x: f64) -> bool
     ensures { result ≡ is_set x }
@@ -125,7 +125,8 @@ fn put(output: &mut [f64], at: usize, numbers: &[f64; OUT])
     }
 }
 
-// The first `n` bounces.
+// The first `n` bounces. By hand, the place of each in the output: std says nothing of what a slice ends as behind
+// `as_chunks_mut`.
 fn run(m: &Prepared<'_, '_>, input: &[f64], output: &mut [f64], n: usize)
     requires { (27 * n ≤ length input.now) × (18 * n ≤ length output.old) }
     ensures { output.new ≡ all_bounced m.now.surface.now input.now n ++ drop (18 * n) output.old }

@@ -5,7 +5,8 @@ use std::fs::File;
 use std::io::Read;
 use text::{digits, patterns};
 
-// What stands for a number that is none: no function has it.
+// What stands for a number that is none: no function has it. By hand, no Option: it goes to the families' tables, which
+// a line of the program then says differs.
 const NO_NUMBER: u64 = 100000;
 
 // What a record begins with; how many words come out is known by the function.

@@ -12,7 +12,7 @@ use std::fs::File;
 use std::io::Read;
 use text::{digits, patterns};
 
-// What stands for a number that is none: no refusal and no count is it.
+// What stands for a number that is none: no refusal and no count is it. By hand, no Option: it is compared with them.
 const NO_NUMBER: u64 = 100000;
 
 // What is called.
@@ -49,6 +49,7 @@ fn candidate_of(t: &[u8]) -> Candidate
     }
 }
 
+// By hand: `From` takes one value, and this a letter of the record and what stands behind it.
 fn call_of(kind: u8, c: Candidate) -> Call {
     match kind {
         b'a' => Call::Arrival(c),

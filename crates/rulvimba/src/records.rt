@@ -65,7 +65,7 @@ const NO_DIRECTION: DirectionResult = DirectionResult {
     direction: Vec3::ZERO,
 };
 
-// The number of a check.
+// The number of a check. By hand: 0 is C's word for accepted.
 #[tactic(auto, unfolding(crate::specs::Results::check_number))]
 pub fn number_of(check: Check) -> u64
     ensures { result ≡ check_number (verdict check) }

@@ -130,7 +130,8 @@ impl<'a> Line<'a> {
     }
 
     // The entries of a spectrum: all that the line has are read, and as many kept as there are places for;
-    // how many are kept. Each takes some bytes of the line, so that no spectrum uses up the turns.
+    // how many are kept. Each takes some bytes of the line, so that no spectrum uses up the turns. By
+    // hand: `count` is the answer, and ends before the turns do.
     pub fn entries(&mut self, values: &mut [f64]) -> Result<usize, Fault> {
         let mut count = 0;
         for _ in 0..self.rest.len() {
