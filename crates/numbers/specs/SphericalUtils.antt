@@ -23,12 +23,16 @@ sin_theta w = sqrt (sin2_theta w)
 unfoldable pub tan_theta : Vec3 → Float
 tan_theta w = sin_theta w ⊘ cos_theta w
 
--- at the pole, where the sine is 0, the azimuth is taken to be 0
+-- at the pole, where the sine is 0, φ is taken to be 0
 unfoldable pub cos_phi : Vec3 → Float
 cos_phi w = cond (eq (sin_theta w) f0) f1 (clamp f_1 f1 (w.x ⊘ sin_theta w))
 
 unfoldable pub sin_phi : Vec3 → Float
 sin_phi w = cond (eq (sin_theta w) f0) f0 (clamp f_1 f1 (w.y ⊘ sin_theta w))
+
+-- either with the sine of θ at hand, for who reads it twice: cos φ by the part along x, sin φ by that along y; `pole` where the sine is 0
+unfoldable pub azimuth : Float → Float → Float → Float
+azimuth part sin pole = cond (eq sin f0) pole (clamp f_1 f1 (part ⊘ sin))
 
 unfoldable pub same_hemisphere : Vec3 → Vec3 → Bool
 same_hemisphere v u = lt f0 (cos_theta v ⊗ cos_theta u)

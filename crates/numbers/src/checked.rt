@@ -22,14 +22,14 @@ pub fn check_direction(w: Vec3) -> Check
 
 // The values of a lone lookup: any finite ones.
 #[tactic(auto, unfolding(crate::specs::Checked::table_holds))]
-fn table_holds(values: &[f64]) -> bool
+fn table_holds(values: &DenseSpectrum<'_>) -> bool
     ensures { result ≡ table_holds values.now }
 {
-    dense_spectrum::is_table(values) && dense_spectrum::all_finite(values)
+    values.is_table() && values.all_finite()
 }
 
 #[tactic(auto, unfolding(crate::specs::Checked::check_table, crate::specs::Refusal::number))]
-fn check_table(values: &[f64]) -> Check
+fn check_table(values: &DenseSpectrum<'_>) -> Check
     ensures { verdict result ≡ check_table values.now }
 {
     refuse(Refusal::Eta, table_holds(values))
@@ -57,12 +57,12 @@ pub fn check_lookup(lambda: f64) -> Check
 // ---- the calls
 // A spectrum's value at a wavelength, of which 0 is one that was ended.
 #[tactic(auto, unfolding(crate::specs::Checked::lookup))]
-pub fn lookup(values: &[f64], lambda: f64) -> Result<f64, Refusal>
+pub fn lookup(values: &DenseSpectrum<'_>, lambda: f64) -> Result<f64, Refusal>
     ensures { answer result ≡ lookup values.now lambda }
 {
     check_table(values)?;
     check_lookup(lambda)?;
-    Ok(DenseSpectrum::sample_one(values, lambda))
+    Ok(values.sample_one(lambda))
 }
 
 // The basis around a normal.

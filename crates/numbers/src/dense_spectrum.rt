@@ -1,13 +1,13 @@
-// Spectra at equal steps of wavelength: lumo's src/tracer/color/dense_spectrum.rs. The entries are a
-// slice that the caller lends.
-ghost use Rattle.std.specs.Prelude.{◌≡◌, Bool, Float, false, T, pos, slice_index_or};
-ghost use Rattle.std.specs.Float.{nan, fin, binary64};
+// Spectra at equal steps of wavelength: lumo's src/tracer/color/dense_spectrum.rs.
+ghost use Rattle.std.specs.Prelude.{◌≡◌, Bool, Float, false, T, pos};
+ghost use Rattle.std.specs.Float.{fin, binary64};
 ghost use Rattle.std.specs.Float.Ieee.{of_int, lt, eq};
 ghost use Rattle.floats.specs.Float.{f1};
 ghost use Rattle.numbers.specs.GridPoint.{grid_point, sample_from};
-ghost use Rattle.numbers.specs.DenseSpectrum.{ceiling, interpolate, sample_one, every, is_constant, all_within, all_finite, is_table, one_spacing, step_of, is_wavelength, is_lookup_wavelength};
+ghost use Rattle.numbers.specs.DenseSpectrum.{ceiling, entry, interpolate, sample_one, every, is_constant, all_within, all_finite, is_table, one_spacing, step_of, is_wavelength, is_lookup_wavelength};
 
 use floats::float;
+use std::marker::Model;
 
 // The range of wavelengths of a table, in nanometres.
 pub const LAMBDA_MIN: f64 = 360.0;
@@ -17,12 +17,26 @@ pub const LAMBDA_MAX: f64 = 830.0;
 // The last wavelength that is accepted: for now where the table ends.
 pub const ACCEPTED_MAX: f64 = LAMBDA_MAX;
 
-// Spectrum sampled at 5nm or at 1nm steps from 360nm to 830nm. By hand, with no entries of its own: they are the
-// slice that the caller lends.
-#[derive(Clone, Copy)]
-pub struct DenseSpectrum {}
+// What stands for a wavelength that was ended. By hand, no Option: a path holds it among its wavelengths, in lumo as in
+// C's array.
+pub const TERMINATED: f64 = 0.0;
 
-impl DenseSpectrum {
+// Spectrum sampled at 5nm or at 1nm steps from 360nm to 830nm. The entries are lent: a surface's spectra lie in its
+// caller's memory.
+#[derive(Drop)]
+pub struct DenseSpectrum<'a> {
+    pub values: &'a [f64],
+}
+
+impl<'a> Model for DenseSpectrum<'a> {
+    ghost use Rattle.std.specs.Prelude.{List, Float};
+
+    ghost Value = { List Float };
+
+    ghost view = { λ s. s.values.now };
+}
+
+impl<'a> DenseSpectrum<'a> {
     // How many entries, and how far apart: lumo's, and of the finer table.
     pub const SAMPLES: usize = 95;
 
@@ -32,53 +46,112 @@ impl DenseSpectrum {
 
     pub const FINE_STEP: f64 = 1.0;
 
-    // How far apart the entries are, which their number tells.
-    pub fn step(values: &[f64]) -> f64
-        ensures { result ≡ step_of values.now }
+    pub fn new(values: &'a [f64]) -> DenseSpectrum<'a>
+        ensures { result ≡ values.now }
     {
-        if values.len() == DenseSpectrum::FINE_SAMPLES {
+        DenseSpectrum { values }
+    }
+
+    // How far apart the entries are, which their number tells.
+    pub fn step(&self) -> f64
+        ensures { result ≡ step_of self.now }
+    {
+        if self.values.len() == DenseSpectrum::FINE_SAMPLES {
             return DenseSpectrum::FINE_STEP;
         }
         DenseSpectrum::STEP
     }
 
-    // Are all entries equal?
-    pub fn is_constant(values: &[f64]) -> bool
-        ensures { result ≡ is_constant values.now }
+    // Are we a constant spectrum?
+    pub fn is_constant(&self) -> bool
+        ensures { result ≡ is_constant self.now }
     {
-        let first = entry(values, 0);
+        let first = self.entry(0);
         // Where the last entry differs from the first, as it mostly does in a spectrum that varies, no pass is needed.
-        if let Some(last) = values.last() {
+        if let Some(last) = self.values.last() {
             if first != *last {
                 return false;
             }
         }
-        all_entries(values, |value| first == value)
+        self.every(|value| first == value)
     }
 
     // Sample the dense spectrum at one wavelength `lambda`
     #[tactic(auto, using(crate::proofs::dense_spectrum::SampleFrom::sample_from_point), unfolding(crate::specs::DenseSpectrum::sample_one))]
-    pub fn sample_one(values: &[f64], lambda: f64) -> f64
-        ensures { result ≡ sample_one values.now lambda }
+    pub fn sample_one(&self, lambda: f64) -> f64
+        ensures { result ≡ sample_one self.now lambda }
     {
-        let step = DenseSpectrum::step(values);
-        DenseSpectrum::sample_from(values, GridPoint::new(step, lambda))
+        self.sample_from(GridPoint::new(self.step(), lambda))
     }
 
     // The same, from the wavelength's place among the grid points.
     #[tactic(auto, unfolding(crate::specs::GridPoint::sample_from))]
-    pub fn sample_from(values: &[f64], point: GridPoint) -> f64
-        ensures { result ≡ sample_from values.now point }
+    pub fn sample_from(&self, point: GridPoint) -> f64
+        ensures { result ≡ sample_from self.now point }
     {
         match point {
             GridPoint::Ended => 0.0,
-            GridPoint::At(b1) => entry(values, b1),
+            GridPoint::At(b1) => self.entry(b1),
             GridPoint::Between { upper, weight } => {
-                let i0 = entry(values, upper.saturating_sub(1));
-                let i1 = entry(values, upper);
+                let i0 = self.entry(upper.saturating_sub(1));
+                let i1 = self.entry(upper);
                 interpolate(weight, i0, i1)
             }
         }
+    }
+
+    // The entry at `i`, and NaN past the end. By hand, no Option: a lookup's sums take the NaN on, as its definition says.
+    pub fn entry(&self, i: u64) -> f64
+        ensures { result ≡ entry self.now i }
+    {
+        self.values
+            .get(i as usize)
+            .copied()
+            .unwrap_or(float::nan())
+    }
+
+    // Whether the test holds of every entry. The loop has no way out, so that the compiler tests several entries at a
+    // time: a pass takes a third of the time that `all` would. A `fold` took a tenth more than this.
+    fn every<F: Fn(f64) -> bool>(&self, holds: F) -> bool
+        requires { F.IsAlwaysCallable holds }
+        ensures { (p : Float → Bool) → ((x : Float) (r : Bool) → F.post holds x r → r ≡ p x) → result ≡ every p self.now }
+    {
+        let mut ok = true;
+        for value in self.values {
+            ok &= holds(*value);
+        }
+        ok
+    }
+
+    // Whether every entry lies from `lo` to `hi`.
+    #[tactic(auto, unfolding(crate::specs::DenseSpectrum::all_within))]
+    pub fn all_within(&self, lo: f64, hi: f64) -> bool
+        ensures { result ≡ all_within lo hi self.now }
+    {
+        self.every(|value| float::within(lo, hi, value))
+    }
+
+    #[tactic(auto, unfolding(crate::specs::DenseSpectrum::all_finite))]
+    pub fn all_finite(&self) -> bool
+        ensures { result ≡ all_finite self.now }
+    {
+        self.every(|value| float::is_finite(value))
+    }
+
+    // Whether there are as many entries as a table has.
+    #[tactic(auto, unfolding(crate::specs::DenseSpectrum::is_table))]
+    pub fn is_table(&self) -> bool
+        ensures { result ≡ is_table self.now }
+    {
+        self.values.len() == DenseSpectrum::SAMPLES
+            || self.values.len() == DenseSpectrum::FINE_SAMPLES
+    }
+
+    // Whether the two have one spacing: as many entries of each.
+    pub fn one_spacing(&self, other: &DenseSpectrum<'_>) -> bool
+        ensures { result ≡ one_spacing self.now other.now }
+    {
+        self.values.len() == other.values.len()
     }
 }
 
@@ -96,7 +169,7 @@ impl GridPoint {
     pub fn new(step: f64, lambda: f64) -> GridPoint
         ensures { result ≡ grid_point step lambda }
     {
-        if lambda == 0.0 {
+        if lambda == TERMINATED {
             return GridPoint::Ended;
         }
         let b1 = ceiling((lambda - LAMBDA_MIN) / step);
@@ -175,61 +248,11 @@ fn any_ceiling(x: f64) -> u64
     0
 }
 
-// The entry at `i`, and NaN past the end.
-pub fn entry(values: &[f64], i: u64) -> f64
-    ensures { result ≡ slice_index_or values.now i nan }
-{
-    values.get(i as usize).copied().unwrap_or(float::nan())
-}
-
 fn interpolate(x1: f64, i0: f64, i1: f64) -> f64
     ensures { result ≡ interpolate x1 i0 i1 }
 {
     let x0 = 1.0 - x1;
     i0 * x0 + i1 * x1
-}
-
-// Whether the test holds of every entry. The loop has no way out, so that the compiler tests several entries at a
-// time: a pass takes a third of the time that `all` would. A `fold` took a tenth more than this.
-fn all_entries<F: Fn(f64) -> bool>(values: &[f64], holds: F) -> bool
-    requires { F.IsAlwaysCallable holds }
-    ensures { (p : Float → Bool) → ((x : Float) (r : Bool) → F.post holds x r → r ≡ p x) → result ≡ every p values.now }
-{
-    let mut ok = true;
-    for value in values {
-        ok &= holds(*value);
-    }
-    ok
-}
-
-// Whether every entry lies from `lo` to `hi`.
-#[tactic(auto, unfolding(crate::specs::DenseSpectrum::all_within))]
-pub fn all_within(values: &[f64], lo: f64, hi: f64) -> bool
-    ensures { result ≡ all_within lo hi values.now }
-{
-    all_entries(values, |value| float::within(lo, hi, value))
-}
-
-#[tactic(auto, unfolding(crate::specs::DenseSpectrum::all_finite))]
-pub fn all_finite(values: &[f64]) -> bool
-    ensures { result ≡ all_finite values.now }
-{
-    all_entries(values, |value| float::is_finite(value))
-}
-
-// Whether there are as many entries as a table has.
-#[tactic(auto, unfolding(crate::specs::DenseSpectrum::is_table))]
-pub fn is_table(values: &[f64]) -> bool
-    ensures { result ≡ is_table values.now }
-{
-    values.len() == DenseSpectrum::SAMPLES || values.len() == DenseSpectrum::FINE_SAMPLES
-}
-
-// Whether two spectra have one spacing: as many entries of each.
-pub fn one_spacing(values: &[f64], others: &[f64]) -> bool
-    ensures { result ≡ one_spacing values.now others.now }
-{
-    values.len() == others.len()
 }
 
 // Whether a path may start with the wavelength.
@@ -239,10 +262,10 @@ pub fn is_wavelength(lambda: f64) -> bool
     float::within(LAMBDA_MIN, ACCEPTED_MAX, lambda)
 }
 
-// Whether a lookup accepts the wavelength: 0, which stands for one that was ended, as well.
+// Whether a lookup accepts the wavelength: one that was ended as well.
 #[tactic(auto, unfolding(crate::specs::DenseSpectrum::is_lookup_wavelength))]
 pub fn is_lookup_wavelength(lambda: f64) -> bool
     ensures { result ≡ is_lookup_wavelength lambda }
 {
-    lambda == 0.0 || is_wavelength(lambda)
+    lambda == TERMINATED || is_wavelength(lambda)
 }

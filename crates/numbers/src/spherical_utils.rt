@@ -1,8 +1,6 @@
 // Angles of a local direction, whose normal is Z: lumo's src/math/spherical_utils.rs.
-ghost use Rattle.std.specs.Prelude.{◌≡◌, cond};
-ghost use Rattle.std.specs.Float.Ieee.{eq};
-ghost use Rattle.floats.specs.Float.{◌⊘◌, f0, f1, f_1, clamp};
-ghost use Rattle.numbers.specs.SphericalUtils.{same_hemisphere, cos_phi, sin_phi, cos_theta, sin_theta, tan_theta, cos2_theta, sin2_theta, tan2_theta};
+ghost use Rattle.std.specs.Prelude.{◌≡◌};
+ghost use Rattle.numbers.specs.SphericalUtils.{same_hemisphere, cos_phi, sin_phi, azimuth, cos_theta, sin_theta, tan_theta, cos2_theta, sin2_theta, tan2_theta};
 
 use crate::vec3::Vec3;
 use floats::float;
@@ -16,26 +14,26 @@ pub fn same_hemisphere(v: Vec3, u: Vec3) -> bool
     cos_theta(v) * cos_theta(u) > 0.0
 }
 
-#[tactic(auto, unfolding(crate::specs::SphericalUtils::cos_phi))]
+#[tactic(auto, unfolding(crate::specs::SphericalUtils::cos_phi, crate::specs::SphericalUtils::azimuth))]
 pub fn cos_phi(w: Vec3) -> f64
     ensures { result ≡ cos_phi w }
 {
-    share(w.x, sin_theta(w), 1.0)
+    azimuth(w.x, sin_theta(w), 1.0)
 }
 
-#[tactic(auto, unfolding(crate::specs::SphericalUtils::sin_phi))]
+#[tactic(auto, unfolding(crate::specs::SphericalUtils::sin_phi, crate::specs::SphericalUtils::azimuth))]
 pub fn sin_phi(w: Vec3) -> f64
     ensures { result ≡ sin_phi w }
 {
-    share(w.y, sin_theta(w), 0.0)
+    azimuth(w.y, sin_theta(w), 0.0)
 }
 
-// A part of a direction by the sine of θ, and `at_pole` where there is no φ.
-fn share(part: f64, sin: f64, at_pole: f64) -> f64
-    ensures { result ≡ cond (eq sin f0) at_pole (clamp f_1 f1 (part ⊘ sin)) }
+// The cosine or the sine of φ, from the direction's part along x or y and the sine of θ; `pole` where there is no φ.
+pub fn azimuth(part: f64, sin: f64, pole: f64) -> f64
+    ensures { result ≡ azimuth part sin pole }
 {
     if sin == 0.0 {
-        return at_pole;
+        return pole;
     }
     float::clamp(part / sin, -1.0, 1.0)
 }

@@ -99,11 +99,7 @@ impl Vec3 {
     pub fn scale(self, s: f64) -> Vec3
         ensures { result ≡ scale self s }
     {
-        Vec3 {
-            x: self.x * s,
-            y: self.y * s,
-            z: self.z * s,
-        }
+        self * s
     }
 
     #[tactic(auto, unfolding(crate::specs::Vec3::cross))]

@@ -11,10 +11,10 @@ use Rattle.numbers.proofs.dense_spectrum.DenseSpectrum.is_constant.Goals as goal
 pub returns-then-first-last : goal.returns-then-first-last
 unfolding is_constant ne
 returns-then-first-last c =
-    let values = c.args.values.now in
+    let values = c.self.inside.values.now in
     let at = c.in-Some.ensures.item.3 in
-    rw (← c.entry-first.ensures) (sym (every_fails _ values (length values - 1) (omega (arith, at.0)) (rw (← at.1 nan) (not-true _ c.if-first-last.true))))
+    rw (← c.entry-first.ensures, ← c.self.view_is) (sym (every_fails _ values (length values - 1) (omega (arith, at.0)) (rw (← at.1 nan) (not-true _ c.if-first-last.true))))
 
 pub returns : goal.returns
 unfolding is_constant
-returns c = rw (← c.entry-first.ensures) (c.all_entries.ensures _ (λ x r e. search rules))
+returns c = rw (← c.entry-first.ensures) (c.every.ensures _ (λ x r e. search rules))
