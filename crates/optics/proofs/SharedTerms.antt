@@ -4,7 +4,7 @@
 use Rattle.std.proofs.Common.{◌≡◌, refl, ap, ◌∙◌, Bool, true, false, cond, List, Float}
 use lib.Ieee.{neg, lt, eq}
 use Rattle.floats.specs.Float.{◌⊕◌, ◌⊘◌, f0, f1}
-use Rattle.numbers.specs.SphericalUtils.{sin_theta, cos_phi, sin_phi}
+use Rattle.numbers.specs.SphericalUtils.{sin_theta, cos_phi, sin_phi, azimuth}
 use Rattle.numbers.specs.Vec3.{negate, dot}
 use Rattle.numbers.specs.declared.vec2.Vec2.{Vec2}
 use Rattle.numbers.specs.declared.vec3.Vec3.{Vec3}
@@ -15,7 +15,7 @@ use Rattle.optics.specs.Surface.{Metal, Glass, Outside, medium, k_from, eta_at, 
 use Rattle.optics.specs.Fresnel.{index_from, sin2_i, cos_i, fr_facing, fr_real, fresnel, f_at, f}
 use Rattle.optics.specs.Bxdf.{refract_facing, refract, Scattered, is_smooth, dielectric_from}
 use Rattle.optics.specs.Density.{conductor_half, conductor_pdf_from, conductor_pdf, eta_ratio, dielectric_half, reflected_pdf, passed_pdf, dielectric_pdf_from, dielectric_pdf}
-use Rattle.optics.specs.SharedTerms.{Snell, azimuth, chi_pass_at, g1_at, g_over_g1_at, sample_normal_pdf_at, snell, fr_real_from, fresnel_from, refract_facing_from, refract_from, dielectric_from_snell, outer_from, quotient_from, f_metal_from, f_glass_from}
+use Rattle.optics.specs.SharedTerms.{Snell, chi_pass_at, g1_at, g_over_g1_at, sample_normal_pdf_at, snell, fr_real_from, fresnel_from, refract_facing_from, refract_from, dielectric_from_snell, outer_from, quotient_from, f_metal_from, f_glass_from}
 use Rattle.optics.specs.Known.{Known, reading_on_glass, known_on_glass}
 use Rattle.optics.proofs.Cosine.{dot_comm, sin2_abs, sin2_neg}
 

@@ -1,8 +1,8 @@
--- The forms in which a term that is needed twice is computed once and handed on: the sine of the polar angle, wo · wh, Λ(wo), Snell's law, the step of the spectra and whether the outer one is constant. Definitions only.
+-- The forms in which a term that is needed twice is computed once and handed on: wo · wh, Λ(wo), Snell's law, the step of the spectra and whether the outer one is constant. Definitions only.
 -- From the term itself each is its formula of Surface.antt, Facets.antt, Fresnel.antt, Bxdf.antt or Density.antt, by the laws of proofs/SharedTerms.antt.
 use Rattle.std.specs.Prelude.{Bool, true, false, cond, List, Float}
 use Rattle.std.specs.Float.Ieee.{neg, lt, eq}
-use Rattle.floats.specs.Float.{◌⊕◌, ◌⊗◌, ◌⊘◌, f0, f1, f_1, epsilon, max, abs, clamp, signum}
+use Rattle.floats.specs.Float.{◌⊕◌, ◌⊗◌, ◌⊘◌, f0, f1, epsilon, max, abs, signum}
 use Rattle.numbers.specs.SphericalUtils.{cos_theta}
 use Rattle.numbers.specs.Vec3.{negate}
 use Rattle.numbers.specs.declared.{vec2.Vec2.Vec2, vec3.Vec3.Vec3}
@@ -13,10 +13,6 @@ use Rattle.optics.specs.Surface.{eta_from, k_from, quotient}
 use Rattle.optics.specs.Fresnel.{f_at, index_from, sin2_i, is_total, cos_i, unpolarized, fr_complex}
 use Rattle.optics.specs.Bxdf.{Outgoing, total, reflect, bent, across_only, Scattered, branch, reflects}
 pub use Rattle.optics.specs.declared.microfacet.Snell.{Snell}
-
--- ---- from the sine of the polar angle: cos_phi by the part along x, sin_phi by that along y; `pole` where the sine is 0
-unfoldable pub azimuth : Float → Float → Float → Float
-azimuth part sin pole = cond (eq sin f0) pole (clamp f_1 f1 (part ⊘ sin))
 
 -- ---- from wo · wh
 unfoldable pub chi_pass_at : Float → Vec3 → Vec3 → Bool

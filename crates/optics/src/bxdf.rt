@@ -6,9 +6,9 @@ use numbers::{EPSILON, spherical_utils};
 pub mod conductor;
 pub mod dielectric;
 
-ghost use Rattle.std.specs.Prelude.{◌≡◌};
-ghost use Rattle.optics.specs.Bxdf.{reflected, refracted, reflect, refract};
-ghost use Rattle.optics.specs.Density.{on_z_side, at_z, pdf_of};
+ghost use Rattle.std.specs.Prelude.{◌≡◌, true, false};
+ghost use Rattle.optics.specs.Bxdf.{reflected, refracted, reflect, refract, sampled, branch};
+ghost use Rattle.optics.specs.Density.{at_z, pdf_of};
 ghost use Rattle.optics.specs.SharedTerms.{refract_facing_from, refract_from};
 
 // What a bend answers: `Total` at total internal reflection. By hand: there are two ways to give no direction, which
@@ -26,6 +26,39 @@ pub enum Sampled {
     Direction { wi: Vec3, reflection: bool },
     None,
     Total,
+}
+
+impl From<Option<Vec3>> for Sampled {
+    ghost from_gives = { λ wi s. sampled s ≡ branch true (reflected wi) };
+
+    // A mirrored direction.
+    #[tactic(auto, unfolding(crate::specs::Bxdf::branch, crate::specs::Bxdf::reflected, crate::specs::Bxdf::sampled))]
+    fn from(wi: Option<Vec3>) -> Sampled {
+        match wi {
+            Some(wi) => Sampled::Direction {
+                wi,
+                reflection: true,
+            },
+            None => Sampled::None,
+        }
+    }
+}
+
+impl From<Refracted> for Sampled {
+    ghost from_gives = { λ wi s. sampled s ≡ branch false (refracted wi) };
+
+    // A bent direction.
+    #[tactic(auto, unfolding(crate::specs::Bxdf::branch, crate::specs::Bxdf::refracted, crate::specs::Bxdf::sampled))]
+    fn from(wi: Refracted) -> Sampled {
+        match wi {
+            Refracted::Direction(bent) => Sampled::Direction {
+                wi: bent,
+                reflection: false,
+            },
+            Refracted::None => Sampled::None,
+            Refracted::Total => Sampled::Total,
+        }
+    }
 }
 
 // The mirrored direction, if it is on `wo`'s side.
@@ -90,17 +123,6 @@ pub fn pdf(kind: Kind, mfd: Ggx, wo: Vec3, wi: Vec3, reflection: bool, eta: f64,
         }
         Kind::Glass => dielectric::pdf(wo, wi, reflection, mfd, eta, k),
     }
-}
-
-// orient MS normal to same side as geometric normal
-#[tactic(auto, unfolding(crate::specs::Density::on_z_side, numbers::specs::SphericalUtils::cos_theta))]
-fn on_z_side(wh: Vec3) -> Vec3
-    ensures { result ≡ on_z_side wh }
-{
-    if wh.z < 0.0 {
-        return -wh;
-    }
-    wh
 }
 
 // A delta surface's density: all of it where the facet is that of the geometric normal.

@@ -9,6 +9,7 @@ use crate::color::Color;
 use crate::microfacet::{Kind, Microsurface, Spectra};
 use floats::float;
 use numbers::dense_spectrum;
+use numbers::dense_spectrum::DenseSpectrum;
 use numbers::refusal::{Check, Refusal, refuse};
 use numbers::vec2::Vec2;
 
@@ -43,27 +44,27 @@ fn is_eta(eta: f64) -> bool
 }
 
 #[tactic(auto, unfolding(crate::specs::Surface::eta_holds))]
-fn eta_holds(eta: &[f64]) -> bool
+fn eta_holds(eta: &DenseSpectrum<'_>) -> bool
     ensures { result ≡ eta_holds eta.now }
 {
-    dense_spectrum::is_table(eta) && dense_spectrum::all_within(eta, ETA_MIN, ETA_MAX)
+    eta.is_table() && eta.all_within(ETA_MIN, ETA_MAX)
 }
 
 #[tactic(auto, unfolding(crate::specs::Surface::all_zero))]
-fn all_zero(k: &[f64]) -> bool
+fn all_zero(k: &DenseSpectrum<'_>) -> bool
     ensures { result ≡ all_zero k.now }
 {
-    dense_spectrum::all_within(k, 0.0, 0.0)
+    k.all_within(0.0, 0.0)
 }
 
 #[tactic(auto, unfolding(crate::specs::Surface::k_entries_hold))]
-fn k_entries_hold(kind: Kind, k: &[f64]) -> bool
+fn k_entries_hold(kind: Kind, k: &DenseSpectrum<'_>) -> bool
     ensures { result ≡ k_entries_hold kind k.now }
 {
     match kind {
         Kind::Metal => {
             // first what metal mostly has
-            if dense_spectrum::all_within(k, K_MIN, K_MAX) {
+            if k.all_within(K_MIN, K_MAX) {
                 return true;
             }
             all_zero(k)
@@ -74,11 +75,11 @@ fn k_entries_hold(kind: Kind, k: &[f64]) -> bool
 
 // A table of as many entries as eta has, all within their limits. Of what is no table no entry is read.
 #[tactic(auto, unfolding(crate::specs::Surface::k_holds))]
-fn k_holds(kind: Kind, eta: &[f64], k: &[f64]) -> bool
+fn k_holds(kind: Kind, eta: &DenseSpectrum<'_>, k: &DenseSpectrum<'_>) -> bool
     ensures { result ≡ k_holds kind eta.now k.now }
 {
-    if dense_spectrum::is_table(k) {
-        return dense_spectrum::one_spacing(eta, k) && k_entries_hold(kind, k);
+    if k.is_table() {
+        return eta.one_spacing(k) && k_entries_hold(kind, k);
     }
     false
 }
@@ -86,15 +87,14 @@ fn k_holds(kind: Kind, eta: &[f64], k: &[f64]) -> bool
 // On glass a table of as many entries as eta has, all within eta's limits; metal has no outer spectrum. Of what is no
 // table no entry is read.
 #[tactic(auto, unfolding(crate::specs::Surface::outer_holds))]
-fn outer_holds(kind: Kind, eta: &[f64], outer: &[f64]) -> bool
+fn outer_holds(kind: Kind, eta: &DenseSpectrum<'_>, outer: &DenseSpectrum<'_>) -> bool
     ensures { result ≡ outer_holds kind eta.now (medium outer.now) }
 {
     match kind {
         Kind::Metal => true,
         Kind::Glass => {
-            if dense_spectrum::is_table(outer) {
-                return dense_spectrum::one_spacing(eta, outer)
-                    && dense_spectrum::all_within(outer, ETA_MIN, ETA_MAX);
+            if outer.is_table() {
+                return eta.one_spacing(outer) && outer.all_within(ETA_MIN, ETA_MAX);
             }
             false
         }
@@ -106,11 +106,11 @@ fn outer_holds(kind: Kind, eta: &[f64], outer: &[f64]) -> bool
 pub fn check_spectra(kind: Kind, spectra: &Spectra<'_>) -> Check
     ensures { verdict result ≡ check_spectra kind spectra.now.eta spectra.now.k (medium spectra.now.outer) }
 {
-    refuse(Refusal::Eta, eta_holds(spectra.eta))?;
-    refuse(Refusal::K, k_holds(kind, spectra.eta, spectra.k))?;
+    refuse(Refusal::Eta, eta_holds(&spectra.eta))?;
+    refuse(Refusal::K, k_holds(kind, &spectra.eta, &spectra.k))?;
     refuse(
         Refusal::Outer,
-        outer_holds(kind, spectra.eta, spectra.outer),
+        outer_holds(kind, &spectra.eta, &spectra.outer),
     )
 }
 

@@ -4,8 +4,10 @@ ghost use Rattle.std.specs.Prelude.{◌≡◌, cond};
 ghost use Rattle.floats.specs.Float.{f0};
 ghost use Rattle.numbers.specs.DenseSpectrum.{entry};
 ghost use Rattle.numbers.specs.GridPoint.{sample_from};
+ghost use Rattle.numbers.specs.Vec3.{Z};
+ghost use Rattle.optics.specs.Density.{on_z_side};
 ghost use Rattle.optics.specs.Facets.{is_delta, lambda, chi_pass, g1, g, g_over_g1, d, sample_normal_pdf, f_schlick, disney_diffuse};
-ghost use Rattle.optics.specs.SharedTerms.{azimuth, chi_pass_at, g1_at, g_over_g1_at, sample_normal_pdf_at, snell, fr_real_from, fresnel_from, quotient_from, f_metal_from, f_glass_from};
+ghost use Rattle.optics.specs.SharedTerms.{chi_pass_at, g1_at, g_over_g1_at, sample_normal_pdf_at, snell, fr_real_from, fresnel_from, quotient_from, f_metal_from, f_glass_from};
 ghost use Rattle.optics.specs.Fresnel.{index_from, fr_real, complex_cos_i, r_par, r_per, fr_complex_facing, fr_complex, fresnel, f_at, f};
 ghost use Rattle.optics.specs.Surface.{kind_code, kind_of, kind_read, medium, eta_from, k_from, eta_at, k_at, quotient, index_on};
 ghost use Rattle.optics.specs.Known.{reading_on_glass, known_on_glass};
@@ -15,10 +17,11 @@ use crate::color::Color;
 use floats::float;
 use floats::square_root::{sqrt, sqrt_or_zero};
 use numbers::complex::Complex;
-use numbers::dense_spectrum::{DenseSpectrum, GridPoint};
+use numbers::dense_spectrum::{DenseSpectrum, GridPoint, TERMINATED};
+use numbers::spherical_utils::azimuth;
 use numbers::vec2::Vec2;
 use numbers::vec3::Vec3;
-use numbers::{EPSILON, dense_spectrum};
+use numbers::EPSILON;
 use std::marker::Model;
 
 pub const PI: f64 = 3.141592653589793;
@@ -81,9 +84,9 @@ pub struct Surface {
 // which is the refraction index of what lies outside glass.
 #[derive(Drop)]
 pub struct Spectra<'a> {
-    pub eta: &'a [f64],
-    pub k: &'a [f64],
-    pub outer: &'a [f64],
+    pub eta: DenseSpectrum<'a>,
+    pub k: DenseSpectrum<'a>,
+    pub outer: DenseSpectrum<'a>,
 }
 
 impl<'a> Model for Spectra<'a> {
@@ -91,7 +94,19 @@ impl<'a> Model for Spectra<'a> {
 
     ghost Value = { Spectra };
 
-    ghost view = { λ s. record { eta = s.eta.now; k = s.k.now; outer = s.outer.now } };
+    ghost view = { λ s. record { eta = s.eta; k = s.k; outer = s.outer } };
+}
+
+impl<'a> Spectra<'a> {
+    pub fn new(eta: &'a [f64], k: &'a [f64], outer: &'a [f64]) -> Spectra<'a>
+        ensures { (result.eta ≡ eta.now) × (result.k ≡ k.now) × (result.outer ≡ outer.now) }
+    {
+        Spectra {
+            eta: DenseSpectrum::new(eta),
+            k: DenseSpectrum::new(k),
+            outer: DenseSpectrum::new(outer),
+        }
+    }
 }
 
 // A surface with the spectra that are lent for it.
@@ -122,8 +137,8 @@ impl Reading {
         ensures { result ≡ reading_on_glass spectra.now.eta spectra.now.outer }
     {
         Reading {
-            step: DenseSpectrum::step(spectra.eta),
-            outer_constant: DenseSpectrum::is_constant(spectra.outer),
+            step: spectra.eta.step(),
+            outer_constant: spectra.outer.is_constant(),
         }
     }
 
@@ -132,9 +147,9 @@ impl Reading {
         ensures { (result.eta ≡ quotient_from self.outer_constant self.step spectra.now.eta spectra.now.outer wl) × (result.k ≡ k_from self.step spectra.now.k wl) }
     {
         let point = GridPoint::new(self.step, wl);
-        let inner = DenseSpectrum::sample_from(spectra.eta, point);
-        let k = DenseSpectrum::sample_from(spectra.k, point);
-        let outer = outer_at(self.outer_constant, spectra.outer, point);
+        let inner = spectra.eta.sample_from(point);
+        let k = spectra.k.sample_from(point);
+        let outer = outer_at(self.outer_constant, &spectra.outer, point);
         OpticalConstants {
             eta: quotient(wl, inner, outer),
             k,
@@ -157,25 +172,25 @@ impl Known {
         let reading = Reading::on_glass(spectra);
         Known {
             reading,
-            eta_constant: DenseSpectrum::is_constant(spectra.eta) & reading.outer_constant,
+            eta_constant: spectra.eta.is_constant() & reading.outer_constant,
         }
     }
 }
 
 // Eta itself at one wavelength, lumo's reading, which on glass is not yet the index.
 #[tactic(auto, unfolding(crate::specs::Surface::eta_at, crate::specs::Surface::eta_from, numbers::specs::DenseSpectrum::sample_one))]
-pub fn eta_at(eta: &[f64], wl: f64) -> f64
+pub fn eta_at(eta: &DenseSpectrum<'_>, wl: f64) -> f64
     ensures { result ≡ eta_at eta.now wl }
 {
-    DenseSpectrum::sample_one(eta, wl)
+    eta.sample_one(wl)
 }
 
 // The absorption coefficient at one wavelength, with eta's spacing.
 pub fn k_at(spectra: &Spectra<'_>, wl: f64) -> f64
     ensures { result ≡ k_at spectra.now.eta spectra.now.k wl }
 {
-    let step = DenseSpectrum::step(spectra.eta);
-    DenseSpectrum::sample_from(spectra.k, GridPoint::new(step, wl))
+    let step = spectra.eta.step();
+    spectra.k.sample_from(GridPoint::new(step, wl))
 }
 
 // The index and the absorption coefficient: `eta` is on glass already divided by what lies outside. By hand, the
@@ -201,7 +216,8 @@ impl OpticalConstants {
         fr_complex(cos_o, self.eta, self.k)
     }
 
-    // `fresnel` with Snell's law at hand, for a caller that bends light by it too.
+    // `fresnel` with Snell's law at hand, for a caller that bends light by it too. By hand: `fresnel` by this would work
+    // the root of Snell's law on metal, which has no use for it.
     #[tactic(auto, unfolding(crate::specs::SharedTerms::fresnel_from))]
     pub fn fresnel_from(self, snell: Snell) -> f64
         ensures { result ≡ fresnel_from snell self.eta self.k }
@@ -222,52 +238,41 @@ pub fn optical_constants(kind: Kind, spectra: &Spectra<'_>, wl: f64) -> OpticalC
     ensures { (result.eta ≡ index_on kind spectra.now.eta (medium spectra.now.outer) wl) × (result.k ≡ k_at spectra.now.eta spectra.now.k wl) }
 {
     match kind {
-        Kind::Metal => metal_constants_at(DenseSpectrum::step(spectra.eta), spectra, wl),
+        Kind::Metal => metal_constants_at(spectra.eta.step(), spectra, wl),
         Kind::Glass => Reading::on_glass(spectra).constants_at(spectra, wl),
     }
 }
 
 // The index of glass against what lies outside: 0 at a wavelength that was ended, where the bare quotient may be 0 / 0.
+// By hand, no Option: the model works an ended wavelength's figures too, and weighs them with 0.
 fn quotient(wl: f64, eta: f64, outer: f64) -> f64
     ensures { result ≡ quotient wl eta outer }
 {
-    if wl == 0.0 {
+    if wl == TERMINATED {
         return 0.0;
     }
     eta / outer
 }
 
 // The outer index: a constant spectrum gives its entry between grid points too.
-fn outer_at(outer_constant: bool, outer: &[f64], point: GridPoint) -> f64
+fn outer_at(outer_constant: bool, outer: &DenseSpectrum<'_>, point: GridPoint) -> f64
     ensures { result ≡ cond outer_constant (entry outer.now 0) (sample_from outer.now point) }
 {
     if outer_constant {
-        return dense_spectrum::entry(outer, 0);
+        return outer.entry(0);
     }
-    DenseSpectrum::sample_from(outer, point)
+    outer.sample_from(point)
 }
 
-// On metal, with `step` at hand.
+// What metal's spectra have at one wavelength: `step` is eta's, and outside nothing is read.
 fn metal_constants_at(step: f64, spectra: &Spectra<'_>, wl: f64) -> OpticalConstants
     ensures { (result.eta ≡ eta_from step spectra.now.eta wl) × (result.k ≡ k_from step spectra.now.k wl) }
 {
     let point = GridPoint::new(step, wl);
     OpticalConstants {
-        eta: DenseSpectrum::sample_from(spectra.eta, point),
-        k: DenseSpectrum::sample_from(spectra.k, point),
+        eta: spectra.eta.sample_from(point),
+        k: spectra.k.sample_from(point),
     }
-}
-
-// The cosine or the sine of the azimuth, from the direction's part along x or y and the sine of its
-// polar angle.
-#[tactic(auto, unfolding(crate::specs::SharedTerms::azimuth))]
-fn azimuth(part: f64, sin: f64, pole: f64) -> f64
-    ensures { result ≡ azimuth part sin pole }
-{
-    if sin == 0.0 {
-        return pole;
-    }
-    float::clamp(part / sin, -1.0, 1.0)
 }
 
 // Schlicks approximation for Fresnel term
@@ -363,14 +368,11 @@ impl Ggx {
         0.0
     }
 
-    #[tactic(auto, unfolding(crate::specs::Facets::g1, crate::specs::Facets::masked))]
+    #[tactic(auto, using(crate::proofs::SharedTerms::g1_at_lem))]
     pub fn g1(self, wo: Vec3, wh: Vec3) -> f64
         ensures { result ≡ g1 self.roughness wo wh }
     {
-        if chi_pass(wo, wh) {
-            return 1.0 / (1.0 + self.lambda(wo));
-        }
-        0.0
+        View::new(self, false, wo).g1(wo.dot(wh), wh)
     }
 
     // `g` over `g1`, and 0 where `g1` is 0.
@@ -388,7 +390,7 @@ impl Ggx {
     }
 
     // `wo` in the hemisphere's configuration, on the side of the geometric normal.
-    #[tactic(auto, unfolding(crate::specs::Sampler::viewed, crate::specs::Sampler::upright, crate::specs::Sampler::stretched))]
+    #[tactic(auto, unfolding(crate::specs::Sampler::viewed, crate::specs::Sampler::upright, crate::specs::Sampler::stretched, crate::specs::Density::on_z_side, numbers::specs::SphericalUtils::cos_theta))]
     fn viewed(self, wo: Vec3) -> Vec3
         ensures { result ≡ viewed self.roughness wo }
     {
@@ -396,12 +398,8 @@ impl Ggx {
             x: wo.x * self.roughness.x,
             y: wo.y * self.roughness.y,
             z: wo.z,
-        }
-        .normalize();
-        if stretched.z < 0.0 {
-            return -stretched;
-        }
-        stretched
+        };
+        on_z_side(stretched.normalize())
     }
 
     // From the hemisphere's configuration back to the ellipsoid.
@@ -433,6 +431,16 @@ impl Ggx {
         let u = tangent(v);
         // move back to ellipsoid
         self.unstretched(combined(u, v, wm))
+    }
+
+    // The facet's normal: Z where the surface scatters into one direction.
+    pub(crate) fn normal(self, one_direction: bool, wo: Vec3, disk: f64, c: f64, s: f64) -> Vec3
+        ensures { result ≡ cond «one_direction» Z (sample_normal self.roughness wo disk c s) }
+    {
+        if one_direction {
+            return Vec3::Z;
+        }
+        self.sample_normal(wo, disk, c, s)
     }
 }
 
@@ -495,6 +503,17 @@ impl View {
     }
 }
 
+// orient MS normal to same side as geometric normal
+#[tactic(auto, unfolding(crate::specs::Density::on_z_side, numbers::specs::SphericalUtils::cos_theta))]
+pub(crate) fn on_z_side(wh: Vec3) -> Vec3
+    ensures { result ≡ on_z_side wh }
+{
+    if wh.z < 0.0 {
+        return -wh;
+    }
+    wh
+}
+
 // The first vector of the basis should be perpendicular to Z.
 fn tangent(v: Vec3) -> Vec3
     ensures { result ≡ tangent v }
@@ -550,7 +569,7 @@ pub fn f(kind: Kind, spectra: &Spectra<'_>, wo: Vec3, wh: Vec3, lambda: Color) -
     ensures { result ≡ f kind spectra.now.eta spectra.now.k (medium spectra.now.outer) wo wh lambda }
 {
     match kind {
-        Kind::Metal => f_on_metal(DenseSpectrum::step(spectra.eta), spectra, wo, wh, lambda),
+        Kind::Metal => f_on_metal(spectra.eta.step(), spectra, wo, wh, lambda),
         Kind::Glass => f_on_glass(Reading::on_glass(spectra), spectra, wo, wh, lambda),
     }
 }
@@ -564,7 +583,7 @@ fn f_on_glass(reading: Reading, spectra: &Spectra<'_>, wo: Vec3, wh: Vec3, lambd
     lambda.map(move |wl| reading.constants_at(spectra, wl).fresnel(cos_o))
 }
 
-// On metal, with `step` at hand.
+// On metal, whose eta's step is `step`.
 #[tactic(auto, unfolding(crate::specs::SharedTerms::f_metal_from, crate::specs::Fresnel::f_at))]
 pub fn f_on_metal(step: f64, spectra: &Spectra<'_>, wo: Vec3, wh: Vec3, lambda: Color) -> Color
     ensures { result ≡ f_metal_from step spectra.now.eta spectra.now.k wo wh lambda }
@@ -682,7 +701,7 @@ impl Snell {
 
 // From below, light leaves the glass.
 #[tactic(auto, unfolding(crate::specs::Fresnel::index_from))]
-fn index_from(cos_o: f64, eta: f64) -> f64
+pub(crate) fn index_from(cos_o: f64, eta: f64) -> f64
     ensures { result ≡ index_from cos_o eta }
 {
     if cos_o < 0.0 {

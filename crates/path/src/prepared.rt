@@ -4,7 +4,6 @@ ghost use Rattle.std.specs.Prelude.{◌≡◌};
 ghost use Rattle.numbers.specs.Refusal.{answer};
 ghost use Rattle.path.specs.Known.{found, found_on};
 
-use numbers::dense_spectrum::DenseSpectrum;
 use numbers::refusal::Refusal;
 use optics::check::check_surface;
 use optics::microfacet::{Kind, Known, Microsurface};
@@ -50,7 +49,7 @@ pub(crate) fn found_on(m: &Microsurface<'_>) -> Found
 {
     match m.surface.kind {
         Kind::Metal => Found::Metal {
-            step: DenseSpectrum::step(m.spectra.eta),
+            step: m.spectra.eta.step(),
         },
         Kind::Glass => Found::Glass(Known::on_glass(&m.spectra)),
     }

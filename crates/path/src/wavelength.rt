@@ -5,8 +5,7 @@ ghost use Rattle.path.specs.Path.{is_start, leading, terminate, is_path_lambda};
 use numbers::dense_spectrum;
 use optics::color::Color;
 
-// What stands for a wavelength that was ended.
-pub const TERMINATED: f64 = 0.0;
+pub use numbers::dense_spectrum::TERMINATED;
 
 // The wavelength of the leading sample, which is never ended.
 #[tactic(auto, unfolding(crate::specs::Path::leading))]

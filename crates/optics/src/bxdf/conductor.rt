@@ -7,7 +7,7 @@ ghost use Rattle.optics.specs.Density.{conductor_half, conductor_pdf_from, condu
 
 use crate::bxdf;
 use crate::bxdf::Sampled;
-use crate::microfacet::{Ggx, View};
+use crate::microfacet::{Ggx, View, on_z_side};
 use floats::float;
 use numbers::spherical_utils;
 use numbers::vec3::Vec3;
@@ -17,14 +17,11 @@ use numbers::vec3::Vec3;
 pub fn normal(wo: Vec3, mfd: Ggx, disk: f64, c: f64, s: f64) -> Vec3
     ensures { result ≡ conductor_normal mfd.roughness wo disk c s }
 {
-    if mfd.is_delta() {
-        return Vec3::Z;
-    }
-    mfd.sample_normal(wo, disk, c, s)
+    mfd.normal(mfd.is_delta(), wo, disk, c, s)
 }
 
 // The direction that the facet's normal `wh` sends on.
-#[tactic(auto, unfolding(crate::specs::Bxdf::conductor_from, crate::specs::Bxdf::branch, crate::specs::Bxdf::reflected, crate::specs::Bxdf::sampled))]
+#[tactic(auto, unfolding(crate::specs::Bxdf::conductor_from, crate::specs::Bxdf::sampled))]
 pub fn sample_from(wo: Vec3, mfd: Ggx, wh: Vec3) -> Sampled
     ensures { sampled result ≡ conductor_from mfd.roughness wo wh }
 {
@@ -39,13 +36,7 @@ pub fn sample_from(wo: Vec3, mfd: Ggx, wh: Vec3) -> Sampled
             reflection: true,
         };
     }
-    match bxdf::reflect(wo, wh) {
-        Some(wi) => Sampled::Direction {
-            wi,
-            reflection: true,
-        },
-        None => Sampled::None,
-    }
+    Sampled::from(bxdf::reflect(wo, wh))
 }
 
 #[tactic(auto, unfolding(crate::specs::Bxdf::conductor_sample))]
@@ -66,7 +57,7 @@ pub fn pdf(wo: Vec3, wi: Vec3, mfd: Ggx) -> f64
 pub fn half(wo: Vec3, wi: Vec3) -> Vec3
     ensures { result ≡ conductor_half wo wi }
 {
-    bxdf::on_z_side((wo + wi).normalize())
+    on_z_side((wo + wi).normalize())
 }
 
 // `pdf` with the normal that takes `wo` to `wi` at hand.

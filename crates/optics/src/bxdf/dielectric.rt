@@ -7,8 +7,8 @@ ghost use Rattle.optics.specs.Density.{eta_ratio, dielectric_half, is_discarded,
 ghost use Rattle.optics.specs.SharedTerms.{sample_normal_pdf_at, dielectric_from_snell};
 
 use crate::bxdf;
-use crate::bxdf::{Refracted, Sampled};
-use crate::microfacet::{Ggx, OpticalConstants, Snell, View};
+use crate::bxdf::Sampled;
+use crate::microfacet::{Ggx, OpticalConstants, Snell, View, index_from, on_z_side};
 use floats::float;
 use numbers::vec3::Vec3;
 
@@ -25,10 +25,7 @@ pub fn is_smooth(mfd: Ggx, eta: f64) -> bool
 pub fn normal(wo: Vec3, mfd: Ggx, eta: f64, disk: f64, c: f64, s: f64) -> Vec3
     ensures { result ≡ dielectric_normal mfd.roughness eta wo disk c s }
 {
-    if is_smooth(mfd, eta) {
-        return Vec3::Z;
-    }
-    mfd.sample_normal(wo, disk, c, s)
+    mfd.normal(is_smooth(mfd, eta), wo, disk, c, s)
 }
 
 // Whether light is reflected, `pr` being the share that is: importance sample reflection/transmission
@@ -42,27 +39,14 @@ fn reflects(rand_u: f64, pr: f64) -> bool
 
 // The direction that the facet's normal `wh` sends on, `pr` being the share that is reflected, with
 // Snell's law at hand, of the cosine `wo.dot(wh)`.
-#[tactic(auto, unfolding(crate::specs::SharedTerms::dielectric_from_snell, crate::specs::Bxdf::branch, crate::specs::Bxdf::reflected, crate::specs::Bxdf::refracted, crate::specs::Bxdf::sampled))]
+#[tactic(auto, unfolding(crate::specs::SharedTerms::dielectric_from_snell))]
 pub fn sample_from(snell: Snell, wo: Vec3, wh: Vec3, pr: f64, rand_u: f64) -> Sampled
     ensures { sampled result ≡ dielectric_from_snell snell pr rand_u wo wh }
 {
     if reflects(rand_u, pr) {
-        return match bxdf::reflect(wo, wh) {
-            Some(wi) => Sampled::Direction {
-                wi,
-                reflection: true,
-            },
-            None => Sampled::None,
-        };
+        return Sampled::from(bxdf::reflect(wo, wh));
     }
-    match bxdf::refract_from(snell, wo, wh) {
-        Refracted::Direction(wi) => Sampled::Direction {
-            wi,
-            reflection: false,
-        },
-        Refracted::None => Sampled::None,
-        Refracted::Total => Sampled::Total,
-    }
+    Sampled::from(bxdf::refract_from(snell, wo, wh))
 }
 
 // `eta` and `k` are those at the leading wavelength.
@@ -94,17 +78,14 @@ pub fn pdf(wo: Vec3, wi: Vec3, reflection: bool, mfd: Ggx, eta: f64, k: f64) -> 
 }
 
 // The index from `wo`'s side to `wi`'s: 1 for a reflection.
-#[tactic(auto, unfolding(crate::specs::Density::eta_ratio, numbers::specs::SphericalUtils::cos_theta))]
+#[tactic(auto, unfolding(crate::specs::Density::eta_ratio, crate::specs::Fresnel::index_from, numbers::specs::SphericalUtils::cos_theta))]
 pub fn eta_ratio(reflection: bool, wo: Vec3, eta: f64) -> f64
     ensures { result ≡ eta_ratio reflection wo eta }
 {
     if reflection {
         return 1.0;
     }
-    if wo.z < 0.0 {
-        return 1.0 / eta;
-    }
-    eta
+    index_from(wo.z, eta)
 }
 
 // The normal that takes `wo` to `wi`.
@@ -113,9 +94,9 @@ pub fn half(eta: f64, ratio: f64, wo: Vec3, wi: Vec3) -> Vec3
     ensures { result ≡ dielectric_half eta ratio wo wi }
 {
     if eta == 1.0 {
-        return bxdf::on_z_side(Vec3::Z);
+        return on_z_side(Vec3::Z);
     }
-    bxdf::on_z_side((wo + wi * ratio).normalize())
+    on_z_side((wo + wi * ratio).normalize())
 }
 
 // `pdf` with the index from `wo`'s side to `wi`'s and the normal that takes `wo` to `wi` at hand.
