@@ -9,28 +9,28 @@ use numbers::dense_spectrum::DenseSpectrum;
 pub extern "C" fn numbers_dense_spectrum_sample_one(values: &[f64], lambda: f64) -> f64
     ensures { result ≡ sample_one values.now lambda }
 {
-    DenseSpectrum::sample_one(values, lambda)
+    DenseSpectrum::new(values).sample_one(lambda)
 }
 
 #[unsafe(no_mangle)]
 pub extern "C" fn numbers_dense_spectrum_is_constant(values: &[f64]) -> bool
     ensures { result ≡ is_constant values.now }
 {
-    DenseSpectrum::is_constant(values)
+    DenseSpectrum::new(values).is_constant()
 }
 
 #[unsafe(no_mangle)]
 pub extern "C" fn numbers_dense_spectrum_all_within(values: &[f64], lo: f64, hi: f64) -> bool
     ensures { result ≡ all_within lo hi values.now }
 {
-    dense_spectrum::all_within(values, lo, hi)
+    DenseSpectrum::new(values).all_within(lo, hi)
 }
 
 #[unsafe(no_mangle)]
 pub extern "C" fn numbers_dense_spectrum_all_finite(values: &[f64]) -> bool
     ensures { result ≡ all_finite values.now }
 {
-    dense_spectrum::all_finite(values)
+    DenseSpectrum::new(values).all_finite()
 }
 
 #[unsafe(no_mangle)]

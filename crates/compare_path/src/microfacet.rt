@@ -5,6 +5,7 @@ ghost use Rattle.optics.specs.Fresnel.{fr_real, fr_complex, f_at, f};
 ghost use Rattle.optics.specs.Surface.{medium, constant_eta, eta_at, k_at, index_on, kind_of};
 ghost use Rattle.optics.specs.Sampler.{sample_normal};
 
+use numbers::dense_spectrum::DenseSpectrum;
 use numbers::vec2::Vec2;
 use numbers::vec3::Vec3;
 use optics::color::Color;
@@ -17,7 +18,7 @@ use optics::microfacet::{Ggx, Kind, Known, Spectra};
 pub extern "C" fn optics_constant_eta(eta: &[f64], outer: &[f64]) -> bool
     ensures { result ≡ constant_eta eta.now (medium outer.now) }
 {
-    let known = Known::on_glass(&Spectra { eta, k: &[], outer });
+    let known = Known::on_glass(&Spectra::new(eta, &[], outer));
     known.eta_constant
 }
 
@@ -25,14 +26,14 @@ pub extern "C" fn optics_constant_eta(eta: &[f64], outer: &[f64]) -> bool
 pub extern "C" fn optics_eta_at(eta: &[f64], wl: f64) -> f64
     ensures { result ≡ eta_at eta.now wl }
 {
-    microfacet::eta_at(eta, wl)
+    microfacet::eta_at(&DenseSpectrum::new(eta), wl)
 }
 
 #[unsafe(no_mangle)]
 pub extern "C" fn optics_k_at(eta: &[f64], k: &[f64], wl: f64) -> f64
     ensures { result ≡ k_at eta.now k.now wl }
 {
-    microfacet::k_at(&Spectra { eta, k, outer: &[] }, wl)
+    microfacet::k_at(&Spectra::new(eta, k, &[]), wl)
 }
 
 // The index at one wavelength, on a kind by its code.
@@ -40,7 +41,7 @@ pub extern "C" fn optics_k_at(eta: &[f64], k: &[f64], wl: f64) -> f64
 pub extern "C" fn optics_index_on(kind: u64, eta: &[f64], k: &[f64], outer: &[f64], wl: f64) -> f64
     ensures { result ≡ index_on (kind_of kind) eta.now (medium outer.now) wl }
 {
-    microfacet::optical_constants(Kind::of_code(kind), &Spectra { eta, k, outer }, wl).eta
+    microfacet::optical_constants(Kind::of_code(kind), &Spectra::new(eta, k, outer), wl).eta
 }
 
 #[unsafe(no_mangle)]
@@ -164,7 +165,7 @@ pub extern "C" fn optics_f(
 {
     microfacet::f(
         Kind::of_code(kind),
-        &Spectra { eta, k, outer },
+        &Spectra::new(eta, k, outer),
         wo,
         wh,
         lambda,

@@ -5,3 +5,6 @@ pub record Spectra : Type 0 where
   pub eta : List Float
   pub k : List Float
   pub outer : List Float
+
+abbrev pub spectra : List Float → List Float → List Float → Spectra
+spectra eta k outer = record { eta = eta; k = k; outer = outer }

@@ -7,6 +7,7 @@ ghost use Rattle.numbers.specs.GridPoint.{sample_from};
 ghost use Rattle.numbers.specs.Vec3.{Z};
 ghost use Rattle.optics.specs.Density.{on_z_side};
 ghost use Rattle.optics.specs.Facets.{is_delta, lambda, chi_pass, g1, g, g_over_g1, d, sample_normal_pdf, f_schlick, disney_diffuse};
+ghost use Rattle.optics.specs.Spectra.{spectra};
 ghost use Rattle.optics.specs.SharedTerms.{chi_pass_at, g1_at, g_over_g1_at, sample_normal_pdf_at, snell, fr_real_from, fresnel_from, quotient_from, f_metal_from, f_glass_from};
 ghost use Rattle.optics.specs.Fresnel.{index_from, fr_real, complex_cos_i, r_par, r_per, fr_complex_facing, fr_complex, fresnel, f_at, f};
 ghost use Rattle.optics.specs.Surface.{kind_code, kind_of, kind_read, medium, eta_from, k_from, eta_at, k_at, quotient, index_on};
@@ -90,16 +91,16 @@ pub struct Spectra<'a> {
 }
 
 impl<'a> Model for Spectra<'a> {
-    ghost use Rattle.optics.specs.Spectra.{Spectra};
+    ghost use Rattle.optics.specs.Spectra.{Spectra, spectra};
 
     ghost Value = { Spectra };
 
-    ghost view = { λ s. record { eta = s.eta; k = s.k; outer = s.outer } };
+    ghost view = { λ s. spectra s.eta s.k s.outer };
 }
 
 impl<'a> Spectra<'a> {
     pub fn new(eta: &'a [f64], k: &'a [f64], outer: &'a [f64]) -> Spectra<'a>
-        ensures { (result.eta ≡ eta.now) × (result.k ≡ k.now) × (result.outer ≡ outer.now) }
+        ensures { result ≡ spectra eta.now k.now outer.now }
     {
         Spectra {
             eta: DenseSpectrum::new(eta),

@@ -73,7 +73,7 @@ pub fn lent<'a>(
 {
     Microsurface {
         surface: Surface::from(surface),
-        spectra: Spectra { eta, k, outer },
+        spectra: Spectra::new(eta, k, outer),
     }
 }
 
@@ -112,7 +112,7 @@ pub fn rulvimba_make_surface(
 ) -> SurfaceResult
     ensures { result ≡ surface_result (Counter.make_surface (kind_of kind) (roughness_of kind roughness) eta.now k.now (medium outer.now)) }
 {
-    SurfaceResult::from(made(kind, roughness, &Spectra { eta, k, outer }))
+    SurfaceResult::from(made(kind, roughness, &Spectra::new(eta, k, outer)))
 }
 
 // The number that the fields of a surface are refused with, or 0.

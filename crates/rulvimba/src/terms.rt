@@ -7,13 +7,14 @@ ghost use Rattle.rulvimba.specs.Results.{float_result, color_result, vec3_result
 
 use crate::records::{ColorResult, DirectionResult, FloatResult, Vec3Result};
 use crate::surfaces::{SurfaceRecord, lent};
+use numbers::dense_spectrum::DenseSpectrum;
 use numbers::vec3::Vec3;
 use optics::color::Color;
 
 pub fn rulvimba_lookup(values: &[f64], lambda: f64) -> FloatResult
     ensures { result ≡ float_result (lookup values.now lambda) }
 {
-    FloatResult::from(numbers::checked::lookup(values, lambda))
+    FloatResult::from(numbers::checked::lookup(&DenseSpectrum::new(values), lambda))
 }
 
 // ---- facet terms

@@ -2,4 +2,4 @@
 use Rattle.rulvimba.proofs.surfaces.lent.Goals as goal
 
 pub returns : goal.returns
-returns c = rw (← c.from.ensures)
+returns c = rw (c.new.ensures, ← c.from.ensures)
