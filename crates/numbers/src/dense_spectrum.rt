@@ -151,7 +151,9 @@ impl<'a> DenseSpectrum<'a> {
     pub fn one_spacing(&self, other: &DenseSpectrum<'_>) -> bool
         ensures { result ≡ one_spacing self.now other.now }
     {
-        self.values.len() == other.values.len()
+        let own = self.values.len();
+        let others = other.values.len();
+        own == others
     }
 }
 

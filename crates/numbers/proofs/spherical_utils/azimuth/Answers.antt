@@ -9,4 +9,4 @@ returns-then-sin c = rw c.if-sin.true
 
 pub returns : goal.returns
 unfolding azimuth of_bits neg
-returns c = rw (c.if-sin.false, ← c.clamp.ensures)
+returns c = rw (c.if-sin.false, c.clamp.ensures)
