@@ -38,7 +38,7 @@ pub struct Job {
 
 // ---- words of a line
 
-// By hand: `TryFrom` for optics' `Kind` would stand in optics, which knows no words of a job.
+// By hand: a `TryFrom` of a word for optics' `Kind` can stand in optics alone, which knows no words of a job.
 fn kind(line: &mut Line<'_>) -> Result<Kind, Fault> {
     match line.word()? {
         b"metal" => Ok(Kind::Metal),

@@ -32,8 +32,9 @@ impl<'a, P: Print> Figures<'a, P> {
 
     // Writes the answers that are there.
     pub fn flush(&mut self) -> Result<(), Failure> {
-        let written = self.rt.write_all(self.out.written());
-        written.map_err(Failure::Write)?;
+        self.rt
+            .write_all(self.out.written())
+            .map_err(Failure::Write)?;
         self.out.clear();
         Ok(())
     }

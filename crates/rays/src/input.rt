@@ -5,7 +5,7 @@ use crate::failure::Failure;
 use crate::sizes;
 use std::io::Read;
 
-// The bytes from `at` to `have` are the next. By hand: the program takes fixed memory, and std's BufReader would allocate.
+// The bytes from `at` to `have` are the next. By hand: a job takes fixed memory, and std's BufReader would allocate.
 #[derive(Drop)]
 pub struct Input<R: Read + Drop> {
     from: R,
@@ -37,8 +37,9 @@ impl<R: Read + Drop> Input<R> {
         let from = self.at;
         let length = self.rest().iter().position(|b| *b == b'\n')?;
         self.at = from + length + 1;
-        let read = &*self;
-        Some(&read.bytes[from..from + length])
+        // the whole is shared, and then a part of it: the check knows no other way to hand it out
+        let input = &*self;
+        Some(&input.bytes[from..from + length])
     }
 
     // Leaves the rest out.

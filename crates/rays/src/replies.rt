@@ -1,5 +1,5 @@
-// What the commands answer, and how it is written. By hand, no Display: a bounce, its shares and its colors are types of
-// other crates, each of which would need one of this crate around it.
+// What the commands answer, and how it is written. By hand, no Display: a bounce, its shares and its colors are types
+// of other crates, each of which would need one of this crate around it.
 use candidates::owned::List;
 use numbers::refusal::{Check, Refusal};
 use numbers::vec3::Vec3;

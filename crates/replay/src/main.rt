@@ -126,8 +126,8 @@ fn replay(rt: &impl Print, file: &mut File) -> io::Result<()> {
     Ok(())
 }
 
-// A file that can't be opened is named on standard error, and the others are replayed all the same. By hand, here and in
-// the candidates' replay: one function for both would take what is done with the file as a closure, and be no shorter.
+// A file that can't be opened is named on standard error, and the others are replayed all the same. By hand, here and
+// in the candidates' replay: one function for both would take what is done with the file as a closure, and be no shorter.
 fn replay_file(rt: &HostRuntime, name: &str) -> io::Result<()> {
     match File::open(rt, name) {
         Ok(mut file) => replay(rt, &mut file),
