@@ -10,6 +10,8 @@ use crate::list::ROOM;
 use numbers::refusal::Check;
 use std::marker::Model;
 
+// The first `count` places of either array are the candidates. By hand: a list takes fixed memory, and a Vec would
+// allocate.
 #[derive(Drop)]
 pub struct List {
     count: usize,

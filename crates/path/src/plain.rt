@@ -24,7 +24,7 @@ pub struct SharesRecord {
     pub passed: f64,
 }
 
-// The cases of an answer, each with the number that C knows it by.
+// The cases of an answer, each with its number in C.
 #[derive(Clone, Copy, PartialEq, Eq, Debug)]
 enum Case {
     Refused = 0,
@@ -33,7 +33,7 @@ enum Case {
     Passed = 3,
 }
 
-// `outcome` is a `Case`. By hand: C's record holds the numbers.
+// `number` is the refusal's, and `outcome` that of a `Case`. By hand, with numbers: no enum crosses to C.
 #[repr(C)]
 #[derive(Clone, Copy)]
 pub struct BounceResult {

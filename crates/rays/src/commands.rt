@@ -1,13 +1,14 @@
-// The commands of a job. Each reads its line, calls the model and puts one line of answer into `out`.
+// The commands of a job. Each reads its line and calls the model; what it answers is then written in one place.
 ghost use Rattle.std.specs.Prelude.{◌≡◌, MatchOption, None, Some};
 ghost use Rattle.path.specs.Answer.{outcome, bounce, path_of};
 ghost use Rattle.path.specs.declared.records.Path.{Path};
 ghost use Rattle.rays.specs.Store.{path_in, keep_path};
 
-use crate::replies::Measure;
+use crate::replies::{Measure, Reply};
 use crate::store::{Entries, Made, Places};
 use crate::{list, replies, sizes};
 use candidates::owned::List;
+use numbers::dense_spectrum;
 use numbers::dense_spectrum::DenseSpectrum;
 use numbers::vec3::Vec3;
 use optics::bxdf::dielectric;
@@ -22,19 +23,9 @@ use text::faults::{Fault, Wrong};
 use text::line::Line;
 use text::output::Output;
 
-// That there is no such path or surface, of which a line's word has the index.
-fn no_path(word: u64) -> Fault {
-    Fault {
-        word,
-        wrong: Wrong::NoPath,
-    }
-}
-
-fn no_surface(word: u64) -> Fault {
-    Fault {
-        word,
-        wrong: Wrong::NoSurface,
-    }
+// What is wrong with a word that was read before, by its number.
+fn at_word(word: u64, wrong: Wrong) -> Fault {
+    Fault { word, wrong }
 }
 
 // What a job holds between two lines.
@@ -47,6 +38,7 @@ pub struct Job {
 
 // ---- words of a line
 
+// By hand: a `TryFrom` of a word for optics' `Kind` can stand in optics alone, which knows no words of a job.
 fn kind(line: &mut Line<'_>) -> Result<Kind, Fault> {
     match line.word()? {
         b"metal" => Ok(Kind::Metal),
@@ -108,19 +100,13 @@ fn outer(line: &mut Line<'_>, kind: Kind) -> Result<Entries, Fault> {
 
 // ---- surfaces
 
-fn is_table(count: usize) -> bool {
-    count == DenseSpectrum::SAMPLES || count == DenseSpectrum::FINE_SAMPLES
-}
-
 // How many entries a lone one stands for: as many as the first spectrum that is a table has, and where none
 // is, as many as lumo's.
-fn samples(counts: [usize; 3]) -> usize {
-    for count in counts {
-        if is_table(count) {
-            return count;
-        }
-    }
-    DenseSpectrum::SAMPLES
+fn samples(spectra: [&[f64]; 3]) -> usize {
+    spectra
+        .iter()
+        .find(|entries| dense_spectrum::is_table(entries))
+        .map_or(DenseSpectrum::SAMPLES, |entries| entries.len())
 }
 
 // Smooth facets send light into one direction whatever the index, which is then not read: that takes a pass
@@ -182,7 +168,7 @@ impl Job {
     }
 
     // surface INDEX KIND ROUGHNESS eta ENTRIES k ENTRIES [outer ENTRIES]
-    fn surface(&mut self, line: &mut Line<'_>, out: &mut Output<'_>) -> Result<Outcome, Fault> {
+    fn surface(&mut self, line: &mut Line<'_>) -> Result<Reply, Fault> {
         let i = line.index(sizes::SURFACE)?;
         let kind = kind(line)?;
         let roughness = line.number()?;
@@ -190,11 +176,10 @@ impl Job {
         let mut k = spectrum(line, b"k", Wrong::K)?;
         let mut outer = outer(line, kind)?;
         line.end()?;
-        let samples = samples([eta.count, k.count, outer.count]);
+        let samples = samples([eta.as_slice(), k.as_slice(), outer.as_slice()]);
         eta.spread(samples);
         k.spread(samples);
         outer.spread(samples);
-        out.labelled(b" surface ", i);
         let spectra = Spectra {
             eta: eta.as_slice(),
             k: k.as_slice(),
@@ -209,66 +194,56 @@ impl Job {
             };
             self.surfaces.keep(i, made);
         });
-        Ok(replies::checked(out, check))
+        Ok(Reply::Surface(i, check))
     }
 
     // start PATH LAMBDA*4
-    fn start(&mut self, line: &mut Line<'_>, out: &mut Output<'_>) -> Result<Outcome, Fault> {
+    fn start(&mut self, line: &mut Line<'_>) -> Result<Reply, Fault> {
         let i = line.index(sizes::PATH)?;
         let lambda = color(line)?;
         line.end()?;
-        out.labelled(b" start ", i);
         let check = Path::start(lambda).map(|path| self.paths.keep(i, path));
-        Ok(replies::checked(out, check))
+        Ok(Reply::Start(i, check))
     }
 
     // bounce PATH SURFACE BACKFACE WO*3 NORMAL*3 U DISK C S KS*4 TF*4
-    fn bounce(&mut self, line: &mut Line<'_>, out: &mut Output<'_>) -> Result<Outcome, Fault> {
+    fn bounce(&mut self, line: &mut Line<'_>) -> Result<Reply, Fault> {
         let p = line.index(sizes::PATH)?;
         let s = line.index(sizes::SURFACE)?;
         let b = bounce_of(line)?;
         line.end()?;
-        let leading = self.paths.get(p).ok_or(no_path(2))?.lambda.s0;
-        let m = self.surfaces.get(s).ok_or(no_surface(3))?.lent();
-        let answer = bounce_held(&mut self.paths, p, &m, b).ok_or(no_path(2))?;
-        out.labelled(b" bounce ", p);
-        Ok(replies::bounced(out, answer, measure_on(&m, leading)))
+        let no_path = at_word(2, Wrong::NoPath);
+        let no_surface = at_word(3, Wrong::NoSurface);
+        let leading = self.paths.get(p).ok_or(no_path)?.lambda.s0;
+        let m = self.surfaces.get(s).ok_or(no_surface)?.lent();
+        let answer = bounce_held(&mut self.paths, p, &m, b).ok_or(no_path)?;
+        Ok(Reply::Bounce(p, answer, measure_on(&m, leading)))
     }
 
     // density SURFACE REFLECTION WO*3 WI*3 LAMBDA
-    fn density(&self, line: &mut Line<'_>, out: &mut Output<'_>) -> Result<Outcome, Fault> {
+    fn density(&self, line: &mut Line<'_>) -> Result<Reply, Fault> {
         let s = line.index(sizes::SURFACE)?;
         let reflection = line.flag()?;
         let wo = vec3(line)?;
         let wi = vec3(line)?;
         let lambda = line.number()?;
         line.end()?;
-        let m = self.surfaces.get(s).ok_or(no_surface(2))?.lent();
-        out.labelled(b" density ", s);
-        match counter::pdf(&m, wo, wi, reflection, lambda) {
-            Err(why) => Ok(replies::refused(out, why)),
-            Ok(x) => {
-                replies::measured(out, x, measure_on(&m, lambda));
-                Ok(answers::ended(out))
-            }
-        }
+        let no_surface = at_word(2, Wrong::NoSurface);
+        let m = self.surfaces.get(s).ok_or(no_surface)?.lent();
+        let density = counter::pdf(&m, wo, wi, reflection, lambda);
+        Ok(Reply::Density(s, density, measure_on(&m, lambda)))
     }
 
     // The command of a word, of which the rest of its line is to be read.
-    fn command(
-        &mut self,
-        word: &[u8],
-        line: &mut Line<'_>,
-        out: &mut Output<'_>,
-    ) -> Result<Outcome, Fault> {
+    fn command(&mut self, word: &[u8], line: &mut Line<'_>) -> Result<Reply, Fault> {
         match word {
-            b"bounce" => self.bounce(line, out),
-            b"density" => self.density(line, out),
-            b"start" => self.start(line, out),
-            b"surface" => self.surface(line, out),
-            b"arrive" => list::arrive(&mut self.list, line, out),
-            b"depart" => list::depart(&mut self.list, line, out),
-            b"list" => list::all(&self.list, line, out),
+            b"bounce" => self.bounce(line),
+            b"density" => self.density(line),
+            b"start" => self.start(line),
+            b"surface" => self.surface(line),
+            b"arrive" => list::arrive(&mut self.list, line),
+            b"depart" => list::depart(&mut self.list, line),
+            b"list" => list::all(line),
             _ => Err(line.wrong(Wrong::Command)),
         }
     }
@@ -280,8 +255,8 @@ impl Job {
             return Outcome::Nothing;
         };
         out.decimal(number);
-        match self.command(word, &mut line, out) {
-            Ok(outcome) => outcome,
+        match self.command(word, &mut line) {
+            Ok(reply) => replies::write(out, reply, &self.list),
             Err(fault) => answers::fault(out, fault),
         }
     }

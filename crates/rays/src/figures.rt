@@ -1,5 +1,6 @@
-// The answers to a job's lines, in the order of the lines, and the figures' last line.
+// The answers to a job's lines, in the order of the lines, and the figures' last line, as they are written.
 use crate::commands::Job;
+use crate::failure::Failure;
 use crate::sizes;
 use std::fmt::Write;
 use text::answers;
@@ -8,17 +9,19 @@ use text::output::Output;
 
 // `number` is the next line's. Of a line that is too long the rest is passed over.
 #[derive(Drop)]
-pub struct Figures<'a> {
+pub struct Figures<'a, P: Print> {
+    rt: &'a P,
     job: Job,
-    pub out: Output<'a>,
+    out: Output<'a>,
     number: u64,
     tally: Tally,
     passing: bool,
 }
 
-impl<'a> Figures<'a> {
-    pub fn new(out: Output<'a>) -> Figures<'a> {
+impl<'a, P: Print> Figures<'a, P> {
+    pub fn new(rt: &'a P, out: Output<'a>) -> Figures<'a, P> {
         Figures {
+            rt,
             job: Job::new(),
             out,
             number: 1,
@@ -27,9 +30,13 @@ impl<'a> Figures<'a> {
         }
     }
 
-    // Whether there is room for one more answer.
-    pub fn has_room(&self) -> bool {
-        sizes::ANSWER <= self.out.room()
+    // Writes the answers that are there.
+    pub fn flush(&mut self) -> Result<(), Failure> {
+        self.rt
+            .write_all(self.out.written())
+            .map_err(Failure::Write)?;
+        self.out.clear();
+        Ok(())
     }
 
     fn too_long(&mut self) -> Outcome {
@@ -46,12 +53,16 @@ impl<'a> Figures<'a> {
         self.job.answer(text, self.number, &mut self.out)
     }
 
-    // Answers a line, or passes over the rest of one.
-    pub fn answer(&mut self, text: &[u8]) {
+    // Answers a line, once there is room for the answer, or passes over the rest of one.
+    pub fn answer(&mut self, text: &[u8]) -> Result<(), Failure> {
+        if self.out.room() < sizes::ANSWER {
+            self.flush()?;
+        }
         let outcome = self.outcome(text);
         self.tally.count(outcome);
         self.passing = false;
         self.number = self.number.saturating_add(1);
+        Ok(())
     }
 
     // Whether a line that begins with `text`, and goes on, is too long, and so passed over.
@@ -64,9 +75,10 @@ impl<'a> Figures<'a> {
         self.passing
     }
 
-    // Figures without their last line were cut.
-    pub fn end(&mut self) {
+    // Writes what is left and the last line. Figures without it were cut.
+    pub fn end(&mut self) -> Result<(), Failure> {
         let tally = self.tally;
         let _ = writeln!(self.out, "{tally}");
+        self.flush()
     }
 }

@@ -2,15 +2,17 @@
 // for each command (docs/RAYS.md). It holds a part of the job at a time, however long the job is.
 #![tactic(auto)]
 
+use failure::Failure;
 use figures::Figures;
 use input::Input;
 use std::env::{Env, FillError};
 use std::io::Read;
 use std::rt::Files;
-use std::{fmt, fs, io, str};
+use std::{fs, str};
 use text::output::Output;
 
 mod commands;
+mod failure;
 mod figures;
 mod input;
 mod list;
@@ -18,79 +20,41 @@ mod replies;
 mod sizes;
 mod store;
 
-// Why a job isn't answered to its end.
-#[derive(Drop)]
-enum Failure {
-    Read(io::Error),
-    Write(io::Error),
-}
-
-impl fmt::Display for Failure {
-    fn fmt<W: fmt::Write>(&self, f: &mut fmt::Formatter<W>) -> fmt::Result {
-        match self {
-            Failure::Read(why) => write!(f, "rays: read: {why}"),
-            Failure::Write(why) => write!(f, "rays: write: {why}"),
-        }
-    }
-}
-
-// Writes the answers that are there.
-fn flush(rt: &impl Print, figures: &mut Figures<'_>) -> Result<(), Failure> {
-    rt.write_all(figures.out.written()).map_err(Failure::Write)?;
-    figures.out.clear();
-    Ok(())
-}
-
-// Answers a line, once there is room for the answer.
-fn answer_line(rt: &impl Print, figures: &mut Figures<'_>, line: &[u8]) -> Result<(), Failure> {
-    if !figures.has_room() {
-        flush(rt, figures)?;
-    }
-    figures.answer(line);
-    Ok(())
-}
-
 // Reads on, once all answers are written; whether the job went on.
-fn more(
-    rt: &impl Print,
-    from: &mut impl Read,
-    input: &mut Input,
-    figures: &mut Figures<'_>,
+fn more<R: Read + Drop, P: Print>(
+    input: &mut Input<R>,
+    figures: &mut Figures<'_, P>,
 ) -> Result<bool, Failure> {
     if figures.passes(input.rest()) {
         input.clear();
     }
-    flush(rt, figures)?;
-    let n = input.read(from).map_err(Failure::Read)?;
-    Ok(0 < n)
+    figures.flush()?;
+    Ok(0 < input.read()?)
 }
 
 // The job's end is its last line's, which may lack its line feed. A proved loop has to end, so this one
 // counts its turns, up to a number that no job uses up.
-fn answer_all(
-    rt: &impl Print,
-    from: &mut impl Read,
-    input: &mut Input,
-    figures: &mut Figures<'_>,
+fn answer_all<R: Read + Drop, P: Print>(
+    input: &mut Input<R>,
+    figures: &mut Figures<'_, P>,
 ) -> Result<(), Failure> {
     for _ in 0..u64::MAX {
         if let Some(line) = input.line() {
-            answer_line(rt, figures, line)?;
-        } else if !more(rt, from, input, figures)? {
-            figures.answer(input.rest());
-            figures.end();
-            return flush(rt, figures);
+            figures.answer(line)?;
+        } else if !more(input, figures)? {
+            figures.answer(input.rest())?;
+            return figures.end();
         }
     }
     Ok(())
 }
 
 // Says on standard error what failed. Where that can't be written either, nothing is left to be said.
-fn answer_job(rt: &(impl Print + Eprint), from: &mut impl Read) {
+fn answer_job(rt: &(impl Print + Eprint), from: impl Read + Drop) {
     let mut bytes = [0u8; sizes::OUTPUT];
-    let mut figures = Figures::new(Output::new(&mut bytes));
-    let mut input = Input::new();
-    if let Err(failure) = answer_all(rt, from, &mut input, &mut figures) {
+    let mut figures = Figures::new(rt, Output::new(&mut bytes));
+    let mut input = Input::new(from);
+    if let Err(failure) = answer_all(&mut input, &mut figures) {
         let _ = eprintln!(rt; "{failure}");
     }
 }
@@ -105,7 +69,7 @@ fn answer_file(rt: &(impl Files + Print + Eprint), path: &[u8]) {
         }
     };
     match fs::open(rt, name) {
-        Ok(mut file) => answer_job(rt, &mut file),
+        Ok(file) => answer_job(rt, file),
         Err(why) => {
             let _ = eprintln!(rt; "{name}: {why}");
         }
@@ -125,7 +89,7 @@ fn main(rt: HostRuntime) {
     let mut path = [0u8; sizes::ARGUMENT];
     match rt.arg(1, &mut path) {
         Ok(n) => answer_file(&rt, &path[..n]),
-        Err(FillError::NotPresent) => answer_job(&rt, &mut rt.stdin()),
+        Err(FillError::NotPresent) => answer_job(&rt, rt.stdin()),
         Err(FillError::TooLong) => {
             let _ = eprintln!(rt; "rays: argument: File name too long");
         }

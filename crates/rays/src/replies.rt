@@ -1,8 +1,12 @@
-// Answers that speak of the model: a refusal, a density and its measure, and what a bounce gives.
+// What the commands answer, and how it is written. By hand, no Display: a bounce, its shares and its colors are types
+// of other crates, each of which would need one of this crate around it.
+use candidates::owned::List;
 use numbers::refusal::{Check, Refusal};
 use numbers::vec3::Vec3;
 use optics::color::Color;
 use path::records::{Bounced, Path, Shares};
+use std::fmt;
+use std::fmt::Write;
 use text::answers;
 use text::answers::Outcome;
 use text::output::Output;
@@ -15,12 +19,34 @@ pub enum Measure {
     PerSteradian,
 }
 
-pub fn refused(out: &mut Output<'_>, why: Refusal) -> Outcome {
+impl fmt::Display for Measure {
+    fn fmt<W: fmt::Write>(&self, f: &mut fmt::Formatter<W>) -> fmt::Result {
+        f.write_str(match self {
+            Measure::Probability => "probability",
+            Measure::PerSteradian => "per-sr",
+        })
+    }
+}
+
+// What each command answers: the index that its line names, or the id, and what came of it.
+#[derive(Clone, Copy)]
+pub enum Reply {
+    Surface(u64, Check),
+    Start(u64, Check),
+    Bounce(u64, Bounced, Measure),
+    Density(u64, Result<f64, Refusal>, Measure),
+    Arrive(u16, Check),
+    Depart(u16, Check),
+    List,
+}
+
+fn refused(out: &mut Output<'_>, why: Refusal) -> Outcome {
     answers::refused(out, why.number())
 }
 
-// That a command was done, or why it is refused.
-pub fn checked(out: &mut Output<'_>, check: Check) -> Outcome {
+// A command by its label and index, and that it was done, or why it is refused.
+fn checked(out: &mut Output<'_>, label: &[u8], index: u64, check: Check) -> Outcome {
+    out.labelled(label, index);
     match check {
         Ok(()) => answers::done(out),
         Err(why) => refused(out, why),
@@ -28,11 +54,19 @@ pub fn checked(out: &mut Output<'_>, check: Check) -> Outcome {
 }
 
 // A density's number and its measure.
-pub fn measured(out: &mut Output<'_>, x: f64, measure: Measure) {
+fn measured(out: &mut Output<'_>, x: f64, measure: Measure) {
     out.number(x);
-    match measure {
-        Measure::Probability => out.text(b" probability"),
-        Measure::PerSteradian => out.text(b" per-sr"),
+    let _ = write!(out, " {measure}");
+}
+
+// The answer for a density that was asked for.
+fn asked(out: &mut Output<'_>, density: Result<f64, Refusal>, measure: Measure) -> Outcome {
+    match density {
+        Ok(x) => {
+            measured(out, x, measure);
+            answers::ended(out)
+        }
+        Err(why) => refused(out, why),
     }
 }
 
@@ -73,7 +107,7 @@ fn sampled(out: &mut Output<'_>, wi: Vec3, given: Option<f64>, measure: Measure)
 }
 
 // The answer to a bounce, after the path's index.
-pub fn bounced(out: &mut Output<'_>, answer: Bounced, measure: Measure) -> Outcome {
+fn bounced(out: &mut Output<'_>, answer: Bounced, measure: Measure) -> Outcome {
     match answer {
         Bounced::Refused { why, path: _ } => refused(out, why),
         Bounced::Lost { shares, path } => {
@@ -100,5 +134,34 @@ pub fn bounced(out: &mut Output<'_>, answer: Bounced, measure: Measure) -> Outco
             sampled(out, wi, density, measure);
             left(out, shares, path)
         }
+    }
+}
+
+// The candidates of a list, from the top.
+fn listed(out: &mut Output<'_>, list: &List) -> Outcome {
+    out.labelled(b" list ", list.count() as u64);
+    for (id, density) in list.ids().iter().zip(list.densities().iter()) {
+        out.labelled(b" ", u64::from(*id));
+        out.number(*density);
+    }
+    answers::ended(out)
+}
+
+// Writes an answer, behind the number of its line.
+pub fn write(out: &mut Output<'_>, reply: Reply, list: &List) -> Outcome {
+    match reply {
+        Reply::Surface(i, check) => checked(out, b" surface ", i, check),
+        Reply::Start(i, check) => checked(out, b" start ", i, check),
+        Reply::Bounce(p, answer, measure) => {
+            out.labelled(b" bounce ", p);
+            bounced(out, answer, measure)
+        }
+        Reply::Density(s, density, measure) => {
+            out.labelled(b" density ", s);
+            asked(out, density, measure)
+        }
+        Reply::Arrive(id, check) => checked(out, b" arrive ", u64::from(id), check),
+        Reply::Depart(id, check) => checked(out, b" depart ", u64::from(id), check),
+        Reply::List => listed(out, list),
     }
 }

@@ -43,7 +43,7 @@ impl<T: Copy, const N: usize> Places<T, N> {
 #[derive(Clone, Copy)]
 pub struct Entries {
     values: [f64; ENTRIES_READ],
-    pub count: usize,
+    count: usize,
 }
 
 impl Entries {

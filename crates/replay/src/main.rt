@@ -9,6 +9,8 @@ use record::Head;
 use spectrum::Spectra;
 use std::fs::File;
 use std::io;
+use text::records;
+use text::records::{MOST, Tally};
 use words::Input;
 
 mod angles;
@@ -28,28 +30,21 @@ mod vectors2;
 mod vectors3;
 mod words;
 
-// A proved loop has to end: no file has so many records.
-const MOST: u64 = 1000000000;
-
-// The line of the last record, and what was counted in its family so far.
+// The line of the last record, its family, and what was counted in the family so far.
 #[derive(Clone, Copy)]
-struct Tally {
+struct Counts {
     line: u64,
     family: Family,
-    records: u64,
-    differences: u64,
+    tally: Tally,
 }
 
-// One more.
-fn count(n: &mut u64) {
-    *n = n.saturating_add(1);
-}
-
-fn print_counts(rt: &impl Print, t: &Tally) -> io::Result<()> {
-    println!(rt;
-        "{}: {} records, {} differ",
-        t.family, t.records, t.differences
-    )
+fn print_counts(rt: &impl Print, counts: &Counts) -> io::Result<()> {
+    let family = counts.family;
+    let Tally {
+        records,
+        differences,
+    } = counts.tally;
+    println!(rt; "{family}: {records} records, {differences} differ")
 }
 
 // Whether the libraries' answer is the record's. By a match: a function goes by its number, which is all that the file
@@ -71,74 +66,68 @@ fn holds(case: &mut Case<'_>, spectra: &Spectra) -> bool {
 }
 
 // A new family is counted anew.
-fn begin_family(rt: &impl Print, t: &mut Tally, family: Family) -> io::Result<()> {
-    if t.family == family {
+fn begin_family(rt: &impl Print, counts: &mut Counts, family: Family) -> io::Result<()> {
+    if counts.family == family {
         return Ok(());
     }
-    if 0 < t.records {
-        print_counts(rt, t)?;
+    if 0 < counts.tally.records {
+        print_counts(rt, counts)?;
     }
-    *t = Tally {
-        line: t.line,
-        family,
-        records: 0,
-        differences: 0,
-    };
+    counts.family = family;
+    counts.tally = Tally::default();
     Ok(())
 }
 
 // One record more.
-fn count_record(rt: &impl Print, t: &mut Tally, same: bool) -> io::Result<()> {
-    count(&mut t.records);
+fn count_record(rt: &impl Print, counts: &mut Counts, same: bool) -> io::Result<()> {
+    counts.tally.count(same);
     if same {
         return Ok(());
     }
-    println!(rt; "line {} differs", t.line)?;
-    count(&mut t.differences);
-    Ok(())
+    println!(rt; "line {} differs", counts.line)
 }
 
 // Reads what follows the head of a record.
 fn step(
     rt: &impl Print,
     file: &mut File,
-    t: &mut Tally,
+    counts: &mut Counts,
     spectra: &mut Spectra,
     head: Head,
 ) -> io::Result<()> {
     if spectra.read(file, head) {
         return Ok(());
     }
-    begin_family(rt, t, Family::of(head.number, spectra.in_air()))?;
+    begin_family(rt, counts, Family::of(head.number, spectra.in_air()))?;
     let mut case = Case {
         number: head.number,
         input: Input::read(file, head.ins),
         file,
     };
     let same = holds(&mut case, spectra);
-    count_record(rt, t, same)
+    count_record(rt, counts, same)
 }
 
 fn replay(rt: &impl Print, file: &mut File) -> io::Result<()> {
     let mut spectra = Spectra::new();
-    let mut t = Tally {
+    let mut counts = Counts {
         line: 0,
         family: Family::Unknown(0),
-        records: 0,
-        differences: 0,
+        tally: Tally::default(),
     };
-    for _ in 0..MOST {
+    for line in 1..MOST {
         let Some(head) = record::read_head(file) else {
-            return print_counts(rt, &t);
+            return print_counts(rt, &counts);
         };
-        count(&mut t.line);
-        step(rt, file, &mut t, &mut spectra, head)?;
-        record::line_end(file);
+        counts.line = line;
+        step(rt, file, &mut counts, &mut spectra, head)?;
+        records::line_end(file);
     }
     Ok(())
 }
 
-// A file that can't be opened is named on standard error, and the others are replayed all the same.
+// A file that can't be opened is named on standard error, and the others are replayed all the same. By hand, here and
+// in the candidates' replay: one function for both would take what is done with the file as a closure, and be no shorter.
 fn replay_file(rt: &HostRuntime, name: &str) -> io::Result<()> {
     match File::open(rt, name) {
         Ok(mut file) => replay(rt, &mut file),

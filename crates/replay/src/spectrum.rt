@@ -18,7 +18,7 @@ fn by_turns(entries: &mut [f64], n: usize) {
     }
 }
 
-// Entries, of which the first `n` are the spectrum's.
+// Entries, of which the first `n` are the spectrum's. By hand: a replay takes fixed memory, and a Vec would allocate.
 #[derive(Clone, Copy)]
 struct Spectrum {
     entries: [f64; MOST],

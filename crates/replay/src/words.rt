@@ -41,7 +41,7 @@ impl Input {
         self.float(i) != 0.0
     }
 
-    // Whether it is glass.
+    // The kind of a surface: glass where the word is not 0.
     pub fn kind(&self, i: usize) -> Kind
         requires { i < 30 }
     {

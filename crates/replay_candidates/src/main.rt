@@ -8,36 +8,25 @@ use numbers::refusal::Check;
 use record::{Call, Head};
 use std::fs::File;
 use std::io;
+use text::records;
+use text::records::{MOST, Tally};
 
 mod record;
 
-// A proved loop has to end: no file has so many records.
-const MOST: u64 = 1000000000;
-
-// What was counted so far, and the line of the last record.
+// The line of the last record, and the lists and calls so far.
 #[derive(Clone, Copy, Default)]
-struct Tally {
+struct Counts {
     line: u64,
     lists: u64,
-    calls: u64,
-    differences: u64,
-}
-
-// One more.
-fn count(n: &mut u64) {
-    *n = n.saturating_add(1);
+    calls: Tally,
 }
 
 // One call more.
-fn count_call(rt: &impl Print, t: &mut Tally, same: bool) -> io::Result<()> {
-    count(&mut t.calls);
-    if same {
-        return Ok(());
+fn count_call(rt: &impl Print, counts: &mut Counts, same: bool) -> io::Result<()> {
+    if !same && counts.calls.differences == 0 {
+        println!(rt; "line {} is the first that differs", counts.line)?;
     }
-    if t.differences == 0 {
-        println!(rt; "line {} is the first that differs", t.line)?;
-    }
-    count(&mut t.differences);
+    counts.calls.count(same);
     Ok(())
 }
 
@@ -51,48 +40,50 @@ fn number_of(check: Check) -> u64 {
 fn step(
     rt: &impl Print,
     file: &mut File,
-    t: &mut Tally,
+    counts: &mut Counts,
     list: &mut List,
     head: Head,
 ) -> io::Result<()> {
     let number = match head.call {
         Call::Begin => {
             list.clear();
-            count(&mut t.lists);
+            counts.lists = counts.lists.saturating_add(1);
             return Ok(());
         }
         Call::Arrival(c) => number_of(list.arrive(c)),
         Call::Departure(id) => number_of(list.depart(id)),
     };
     let entries = record::same_entries(file, head.entries, list);
-    count_call(rt, t, entries && number == head.number)
+    count_call(rt, counts, entries && number == head.number)
 }
 
-fn replay(rt: &impl Print, file: &mut File) -> io::Result<Tally> {
+fn print_counts(rt: &impl Print, counts: &Counts) -> io::Result<()> {
+    println!(rt;
+        "candidates: {} calls in {} lists, {} differ",
+        counts.calls.records, counts.lists, counts.calls.differences
+    )
+}
+
+fn replay(rt: &impl Print, file: &mut File) -> io::Result<()> {
     let mut list = List::new();
-    let mut t = Tally::default();
-    for _ in 0..MOST {
+    let mut counts = Counts::default();
+    for line in 1..MOST {
         let Some(head) = record::read_head(file) else {
             break;
         };
-        count(&mut t.line);
-        step(rt, file, &mut t, &mut list, head)?;
-        record::line_end(file);
+        counts.line = line;
+        step(rt, file, &mut counts, &mut list, head)?;
+        records::line_end(file);
     }
-    Ok(t)
+    print_counts(rt, &counts)
 }
 
 // A file that can't be opened is named on standard error, which is no failure of the program.
 fn replay_file(rt: &HostRuntime, name: &str) -> io::Result<()> {
-    let mut file = match File::open(rt, name) {
-        Ok(file) => file,
-        Err(why) => return eprintln!(rt; "{name}: {why}"),
-    };
-    let t = replay(rt, &mut file)?;
-    println!(rt;
-        "candidates: {} calls in {} lists, {} differ",
-        t.calls, t.lists, t.differences
-    )
+    match File::open(rt, name) {
+        Ok(mut file) => replay(rt, &mut file),
+        Err(why) => eprintln!(rt; "{name}: {why}"),
+    }
 }
 
 fn main(rt: HostRuntime) -> io::Result<()> {

@@ -9,11 +9,7 @@ use candidates::candidate::Candidate;
 use candidates::list::ROOM;
 use candidates::owned::List;
 use std::fs::File;
-use std::io::Read;
-use text::{digits, patterns};
-
-// What stands for a number that is none: no refusal and no count is it. By hand, no Option: it is compared with them.
-const NO_NUMBER: u64 = 100000;
+use text::{patterns, records};
 
 // What is called.
 #[derive(Clone, Copy)]
@@ -32,20 +28,15 @@ pub struct Head {
     pub entries: u64,
 }
 
-// Sixteen digits, 0 where they are none.
-fn bits_of(t: &[u8]) -> u64 {
-    digits::hex16(t).unwrap_or(0)
-}
-
 // An id of four digits, a blank, and a density of sixteen.
-fn candidate_of(t: &[u8]) -> Candidate
-    requires { length t.now ≡ 21 }
+fn candidate_of(text: &[u8]) -> Candidate
+    requires { length text.now ≡ 21 }
 {
     let mut id = [b'0'; 16];
-    id[12..].copy_from_slice(&t[..4]);
+    id[12..].copy_from_slice(&text[..4]);
     Candidate {
-        id: u16::try_from(bits_of(&id)).unwrap_or(0),
-        density: patterns::of_bits(bits_of(&t[5..])),
+        id: u16::try_from(records::hex16(&id)).unwrap_or(0),
+        density: patterns::of_bits(records::hex16(&text[5..])),
     }
 }
 
@@ -60,26 +51,28 @@ fn call_of(kind: u8, c: Candidate) -> Call {
 
 // The head of the next record, if there is one.
 pub fn read_head(file: &mut File) -> Option<Head> {
-    let mut t = [0u8; 29];
-    file.read_exact(&mut t).ok()?;
+    let text: [u8; 29] = records::next(file)?;
     Some(Head {
-        call: call_of(t[0], candidate_of(&t[2..23])),
-        number: digits::decimal(&t[24..26]).unwrap_or(NO_NUMBER),
-        entries: digits::decimal(&t[27..29]).unwrap_or(NO_NUMBER),
+        call: call_of(text[0], candidate_of(&text[2..23])),
+        number: records::decimal(&text[24..26]),
+        entries: records::decimal(&text[27..29]),
     })
 }
 
-// Reads past the end of a line.
-pub fn line_end(file: &mut File) {
-    let mut text = [0u8; 1];
-    let _ = file.read_exact(&mut text);
+// The next entry behind its blank, if there is one.
+fn read_entry(file: &mut File) -> Option<Candidate> {
+    let text: [u8; 22] = records::next(file)?;
+    Some(candidate_of(&text[1..]))
 }
 
-// Reads an entry. Where the file ends before, what is missing is 0, which is no digit.
-fn read_entry(file: &mut File) -> Candidate {
-    let mut t = [0u8; 22];
-    let _ = file.read_exact(&mut t);
-    candidate_of(&t[1..])
+// Whether an entry is the candidate of a list, if both are there.
+fn is_same(entry: Option<Candidate>, present: Option<(&u16, &f64)>) -> bool {
+    match (entry, present) {
+        (Some(entry), Some((id, density))) => {
+            *id == entry.id && patterns::bits(*density) == patterns::bits(entry.density)
+        }
+        _ => false,
+    }
 }
 
 // Whether the next `n` entries are the candidates of the list, from the top. Of more than a list has places for, no
@@ -88,10 +81,7 @@ pub fn same_entries(file: &mut File, n: u64, list: &List) -> bool {
     let mut same = n == list.count() as u64;
     let mut present = list.ids().iter().zip(list.densities());
     for _ in 0..n.min(ROOM as u64) {
-        let entry = read_entry(file);
-        same &= present.next().is_some_and(|(id, density)| {
-            *id == entry.id && patterns::bits(*density) == patterns::bits(entry.density)
-        });
+        same &= is_same(read_entry(file), present.next());
     }
     same
 }

@@ -1,15 +1,20 @@
 // A path in the caller's memory: eight doubles, four wavelengths and then four powers. By hand: so C lends one.
 ghost use Rattle.std.specs.Prelude.{◌≡◌};
+ghost use Rattle.numbers.specs.Refusal.{verdict};
 ghost use Rattle.path.specs.Answer.{outcome};
+ghost use Rattle.rulvimba.specs.Results.{check_number};
 ghost use Rattle.rulvimba.specs.Paths.{path_in, numbers_of, path_after, StartCall, BounceCall};
 
+use crate::records::number_of;
 use crate::surfaces::{SurfaceRecord, lent};
+use numbers::refusal::Check;
 use optics::color::Color;
 use path::bsdf;
 use path::plain::BounceResult;
 use path::records::{Bounce, Bounced, Path};
 
-// By hand, as path::many reads 8 doubles of its 27: one function for both asks for a length, and no public one asks.
+// By hand: `path::many` reads the same eight of 27. One function for both would take a slice and ask that it has eight
+// at least, and a public function asks nothing.
 fn load(numbers: &[f64; 8]) -> Path
     ensures { result ≡ path_in numbers.now }
 {
@@ -58,18 +63,20 @@ fn keep(numbers: &mut [f64; 8], answer: Bounced)
     }
 }
 
+// Stores a path that starts at four wavelengths; a refusal stores nothing.
+#[tactic(auto, unfolding(crate::specs::Paths::path_started, crate::specs::Results::check_number))]
+fn start(numbers: &mut [f64; 8], lambda: Color) -> Check
+    ensures { StartCall numbers.old lambda (check_number (verdict result)) numbers.new }
+{
+    store(numbers, Path::start(lambda)?);
+    Ok(())
+}
+
 // Starts a path at four wavelengths; a refusal leaves the memory as it was.
-#[tactic(auto, unfolding(crate::specs::Paths::path_started))]
 pub fn rulvimba_start(path: &mut [f64; 8], lambda: Color) -> u64
     ensures { StartCall path.old lambda result path.new }
 {
-    match Path::start(lambda) {
-        Ok(made) => {
-            store(path, made);
-            0
-        }
-        Err(why) => why.number(),
-    }
+    number_of(start(path, lambda))
 }
 
 // A bounce of the path; a refusal leaves the memory as it was.

@@ -33,7 +33,8 @@ pub struct Vec3Result {
     pub value: Vec3,
 }
 
-// What a mirror, a bend or a sampler gives, by the number that `outcome` is. By hand: no enum crosses to C.
+// What a mirror or a bend gives: no direction may be total internal reflection. Each has its number in C. By hand, with
+// numbers: no enum crosses to C.
 #[derive(Clone, Copy, PartialEq, Eq, Debug)]
 pub enum Case {
     Refused = 0,
@@ -42,7 +43,7 @@ pub enum Case {
     Total = 3,
 }
 
-// `outcome` is 0 refused, 1 a direction, 2 none, 3 total internal reflection.
+// `outcome` is the number of a `Case`; where it is no direction, zeros stand in its place.
 #[repr(C)]
 #[derive(Clone, Copy)]
 pub struct DirectionResult {

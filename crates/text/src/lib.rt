@@ -9,4 +9,5 @@ pub mod faults;
 pub mod line;
 pub mod output;
 pub mod patterns;
+pub mod records;
 pub mod words;

@@ -1,0 +1,58 @@
+// Records of recorded answers, a line each, in numbers of so many digits: what the programs that replay them read and
+// count alike.
+ghost use Rattle.std.specs.Prelude.{◌≡◌, ◌+◌, ◌-◌, ◌^◌, cond, min, IfSome};
+ghost use Rattle.std.specs.Io.KnownBytes.{Consumes};
+
+use crate::digits;
+use std::io::Read;
+
+// A proved loop has to end: no file has so many records.
+pub const MOST: u64 = 1000000000;
+
+// What stands for a decimal that is none. By hand, no Option: a record's number is looked up or compared, and this one,
+// which five digits can't say, is none of those that are.
+const NO_NUMBER: u64 = 100000;
+
+// The next `N` bytes, if so many come.
+pub fn next<const N: usize, R: Read>(from: &mut R) -> Option<[u8; N]>
+    ensures { IfSome result (Consumes (R.remaining from.old) (R.remaining from.new)) }
+{
+    let mut bytes = [0; N];
+    from.read_exact(&mut bytes).ok()?;
+    Some(bytes)
+}
+
+// Reads past the end of a line.
+pub fn line_end<R: Read>(from: &mut R) {
+    let _end: Option<[u8; 1]> = next(from);
+}
+
+// The value of decimal digits, no more than five.
+pub fn decimal(text: &[u8]) -> u64 {
+    digits::decimal(text).unwrap_or(NO_NUMBER)
+}
+
+// The value of sixteen hexadecimal digits, and 0 where they are none.
+pub fn hex16(text: &[u8]) -> u64 {
+    digits::hex16(text).unwrap_or(0)
+}
+
+// How many records there were, and how many of them differ from what was replayed.
+#[derive(Clone, Copy, Default)]
+pub struct Tally {
+    pub records: u64,
+    pub differences: u64,
+}
+
+impl Tally {
+    // One record more, and whether what was replayed is the same.
+    pub fn count(&mut self, same: bool)
+        ensures records { self.new.records ≡ min (self.old.records + 1) (2 ^ 64 - 1) }
+        ensures differences { self.new.differences ≡ cond «same» self.old.differences (min (self.old.differences + 1) (2 ^ 64 - 1)) }
+    {
+        self.records = self.records.saturating_add(1);
+        if !same {
+            self.differences = self.differences.saturating_add(1);
+        }
+    }
+}
