@@ -8,7 +8,6 @@ use crate::replies::{Measure, Reply};
 use crate::store::{Entries, Made, Places};
 use crate::{list, replies, sizes};
 use candidates::owned::List;
-use numbers::dense_spectrum;
 use numbers::dense_spectrum::DenseSpectrum;
 use numbers::vec3::Vec3;
 use optics::bxdf::dielectric;
@@ -102,11 +101,11 @@ fn outer(line: &mut Line<'_>, kind: Kind) -> Result<Entries, Fault> {
 
 // How many entries a lone one stands for: as many as the first spectrum that is a table has, and where none
 // is, as many as lumo's.
-fn samples(spectra: [&[f64]; 3]) -> usize {
+fn samples(spectra: [DenseSpectrum<'_>; 3]) -> usize {
     spectra
         .iter()
-        .find(|entries| dense_spectrum::is_table(entries))
-        .map_or(DenseSpectrum::SAMPLES, |entries| entries.len())
+        .find(|spectrum| spectrum.is_table())
+        .map_or(DenseSpectrum::SAMPLES, |spectrum| spectrum.values.len())
 }
 
 // Smooth facets send light into one direction whatever the index, which is then not read: that takes a pass
@@ -176,14 +175,14 @@ impl Job {
         let mut k = spectrum(line, b"k", Wrong::K)?;
         let mut outer = outer(line, kind)?;
         line.end()?;
-        let samples = samples([eta.as_slice(), k.as_slice(), outer.as_slice()]);
+        let samples = samples([eta.spectrum(), k.spectrum(), outer.spectrum()]);
         eta.spread(samples);
         k.spread(samples);
         outer.spread(samples);
         let spectra = Spectra {
-            eta: eta.as_slice(),
-            k: k.as_slice(),
-            outer: outer.as_slice(),
+            eta: eta.spectrum(),
+            k: k.spectrum(),
+            outer: outer.spectrum(),
         };
         let check = counter::make_surface(kind, roughness, &spectra).map(|surface| {
             let made = Made {

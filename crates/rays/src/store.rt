@@ -3,6 +3,7 @@ ghost use Rattle.std.specs.Prelude.{◌≡◌, ◌<◌, option_copied};
 ghost use Rattle.rays.specs.Store.{held_in, keep_held};
 
 use crate::sizes::ENTRIES_READ;
+use numbers::dense_spectrum::DenseSpectrum;
 use optics::microfacet::{Microsurface, Spectra, Surface};
 use text::faults::Fault;
 use text::line::Line;
@@ -68,8 +69,8 @@ impl Entries {
         Ok(Entries { values, count })
     }
 
-    pub fn as_slice(&self) -> &[f64] {
-        self.values.get(..self.count).unwrap_or(&[])
+    pub fn spectrum(&self) -> DenseSpectrum<'_> {
+        DenseSpectrum::new(self.values.get(..self.count).unwrap_or(&[]))
     }
 
     // With a lone entry at each of so many wavelengths.
@@ -97,9 +98,9 @@ impl Made {
         Microsurface {
             surface: self.surface,
             spectra: Spectra {
-                eta: self.eta.as_slice(),
-                k: self.k.as_slice(),
-                outer: self.outer.as_slice(),
+                eta: self.eta.spectrum(),
+                k: self.k.spectrum(),
+                outer: self.outer.spectrum(),
             },
         }
     }

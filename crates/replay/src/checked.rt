@@ -1,9 +1,10 @@
 // Functions of numbers that refuse. The record 800 has the entries for those after it.
 use crate::case::Case;
 use numbers::checked;
+use numbers::dense_spectrum::DenseSpectrum;
 
 // Whether the answer of the case's function is the record's.
-pub fn replay(case: &mut Case<'_>, values: &[f64]) -> bool {
+pub fn replay(case: &mut Case<'_>, values: &DenseSpectrum<'_>) -> bool {
     let w = case.input;
     let a = w.vec3(0);
     let b = w.vec3(3);

@@ -59,8 +59,8 @@ fn holds(case: &mut Case<'_>, spectra: &Spectra) -> bool {
         400..=499 => complexes::replay(case),
         500..=599 => bases::replay(case),
         600..=699 => angles::replay(case),
-        700..=799 => spectra::replay(case, spectra.values()),
-        800..=899 => checked::replay(case, spectra.values()),
+        700..=799 => spectra::replay(case, &spectra.numbers()),
+        800..=899 => checked::replay(case, &spectra.numbers()),
         _ => facets::replay(case),
     }
 }

@@ -47,8 +47,8 @@ impl Spectrum {
         Spectrum { entries, n }
     }
 
-    fn values(&self) -> &[f64] {
-        &self.entries[..self.n.min(MOST)]
+    fn lent(&self) -> DenseSpectrum<'_> {
+        DenseSpectrum::new(&self.entries[..self.n.min(MOST)])
     }
 }
 
@@ -85,17 +85,17 @@ impl Spectra {
     }
 
     // A spectrum of numbers, which is in the place of eta.
-    pub fn values(&self) -> &[f64] {
-        self.eta.values()
+    pub fn numbers(&self) -> DenseSpectrum<'_> {
+        self.eta.lent()
     }
 
     pub fn lent(&self) -> microfacet::Spectra<'_> {
         microfacet::Spectra {
-            eta: self.eta.values(),
-            k: self.k.values(),
+            eta: self.eta.lent(),
+            k: self.k.lent(),
             outer: match &self.outer {
-                Some(outer) => outer.values(),
-                None => &ONES[..self.eta.n.min(MOST)],
+                Some(outer) => outer.lent(),
+                None => DenseSpectrum::new(&ONES[..self.eta.n.min(MOST)]),
             },
         }
     }

@@ -36,7 +36,7 @@ fn apart(case: &mut Case<'_>, spectra: &Spectra<'_>) -> bool {
     let u = w.vec3(6);
     match case.number {
         931 => case.holds(Known::on_glass(spectra).eta_constant),
-        932 => case.holds(microfacet::eta_at(spectra.eta, v.x)),
+        932 => case.holds(microfacet::eta_at(&spectra.eta, v.x)),
         933 => case.holds(microfacet::k_at(spectra, v.x)),
         934 => case.holds(microfacet::f(w.kind(0), spectra, v, u, w.color(9))),
         935 => case.holds(microfacet::optical_constants(w.kind(0), spectra, v.x).eta),
