@@ -230,7 +230,8 @@ impl Job {
         let no_surface = at_word(2, Wrong::NoSurface);
         let m = self.surfaces.get(s).ok_or(no_surface)?.lent();
         let density = counter::pdf(&m, wo, wi, reflection, lambda);
-        Ok(Reply::Density(s, density, measure_on(&m, lambda)))
+        let measured = density.map(|x| (x, measure_on(&m, lambda)));
+        Ok(Reply::Density(s, measured))
     }
 
     // The command of a word, of which the rest of its line is to be read.

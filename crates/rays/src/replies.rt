@@ -34,7 +34,7 @@ pub enum Reply {
     Surface(u64, Check),
     Start(u64, Check),
     Bounce(u64, Bounced, Measure),
-    Density(u64, Result<f64, Refusal>, Measure),
+    Density(u64, Result<(f64, Measure), Refusal>),
     Arrive(u16, Check),
     Depart(u16, Check),
     List,
@@ -60,9 +60,9 @@ fn measured(out: &mut Output<'_>, x: f64, measure: Measure) {
 }
 
 // The answer for a density that was asked for.
-fn asked(out: &mut Output<'_>, density: Result<f64, Refusal>, measure: Measure) -> Outcome {
+fn asked(out: &mut Output<'_>, density: Result<(f64, Measure), Refusal>) -> Outcome {
     match density {
-        Ok(x) => {
+        Ok((x, measure)) => {
             measured(out, x, measure);
             answers::ended(out)
         }
@@ -156,9 +156,9 @@ pub fn write(out: &mut Output<'_>, reply: Reply, list: &List) -> Outcome {
             out.labelled(b" bounce ", p);
             bounced(out, answer, measure)
         }
-        Reply::Density(s, density, measure) => {
+        Reply::Density(s, density) => {
             out.labelled(b" density ", s);
-            asked(out, density, measure)
+            asked(out, density)
         }
         Reply::Arrive(id, check) => checked(out, b" arrive ", u64::from(id), check),
         Reply::Depart(id, check) => checked(out, b" depart ", u64::from(id), check),

@@ -20,10 +20,10 @@ pub fn read_head(file: &mut File) -> Option<Head> {
     })
 }
 
-// The next word behind its blank, and 0 where there is none.
+// The next word behind its blank, and 0 where it is none.
 pub fn word(file: &mut File) -> u64 {
-    let text: Option<[u8; 17]> = records::next(file);
-    text.map_or(0, |text| records::hex16(&text[1..]))
+    let text: [u8; 17] = records::next_or_zeros(file);
+    records::hex16(&text[1..])
 }
 
 // The words that go in, as floats; the places behind them are 0.

@@ -59,20 +59,10 @@ pub fn read_head(file: &mut File) -> Option<Head> {
     })
 }
 
-// The next entry behind its blank, if there is one.
-fn read_entry(file: &mut File) -> Option<Candidate> {
-    let text: [u8; 22] = records::next(file)?;
-    Some(candidate_of(&text[1..]))
-}
-
-// Whether an entry is the candidate of a list, if both are there.
-fn is_same(entry: Option<Candidate>, present: Option<(&u16, &f64)>) -> bool {
-    match (entry, present) {
-        (Some(entry), Some((id, density))) => {
-            *id == entry.id && patterns::bits(*density) == patterns::bits(entry.density)
-        }
-        _ => false,
-    }
+// The next entry behind its blank. Where the file ends before, what is missing is 0.
+fn read_entry(file: &mut File) -> Candidate {
+    let text: [u8; 22] = records::next_or_zeros(file);
+    candidate_of(&text[1..])
 }
 
 // Whether the next `n` entries are the candidates of the list, from the top. Of more than a list has places for, no
@@ -81,7 +71,10 @@ pub fn same_entries(file: &mut File, n: u64, list: &List) -> bool {
     let mut same = n == list.count() as u64;
     let mut present = list.ids().iter().zip(list.densities());
     for _ in 0..n.min(ROOM as u64) {
-        same &= is_same(read_entry(file), present.next());
+        let entry = read_entry(file);
+        same &= present.next().is_some_and(|(id, density)| {
+            *id == entry.id && patterns::bits(*density) == patterns::bits(entry.density)
+        });
     }
     same
 }

@@ -22,9 +22,16 @@ pub fn next<const N: usize, R: Read>(from: &mut R) -> Option<[u8; N]>
     Some(bytes)
 }
 
+// The next `N` bytes. Where fewer come, or a read fails, what is missing stays 0, which is no digit.
+pub fn next_or_zeros<const N: usize, R: Read>(from: &mut R) -> [u8; N] {
+    let mut bytes = [0; N];
+    let _ = from.read_exact(&mut bytes);
+    bytes
+}
+
 // Reads past the end of a line.
 pub fn line_end<R: Read>(from: &mut R) {
-    let _end: Option<[u8; 1]> = next(from);
+    let _end: [u8; 1] = next_or_zeros(from);
 }
 
 // The value of decimal digits, no more than five.
