@@ -1,4 +1,5 @@
 -- `optics::bxdf::refract_facing` meets its contract: the calls give what their contracts promise, and the definition is read in the same order.
+use Rattle.std.proofs.Common.{refl}
 use Rattle.optics.specs.Bxdf.{bent, across_only, refracted}
 use Rattle.optics.specs.Fresnel.{is_total}
 use Rattle.optics.specs.SharedTerms.{refract_facing_from}
@@ -15,4 +16,4 @@ returns-then-same_hemisphere c = rw (c.if-snell.false, ← c.neg.ensures, ← c.
 
 pub returns : goal.returns
 unfolding refract_facing_from is_total bent across_only refracted of_bits
-returns c = rw (c.if-snell.false, ← c.neg.ensures, ← c.div.ensures, ← c.mul.ensures, ← c.add-wi.ensures, ← c.same_hemisphere.ensures, c.if-same_hemisphere.false)
+returns c = rw (c.if-snell.false, ← c.neg.ensures, ← c.div.ensures, ← c.mul.ensures, ← c.add-wi.ensures, ← c.same_hemisphere.ensures, c.if-same_hemisphere.false) refl

@@ -1,4 +1,5 @@
 -- `path::check::check_rest` meets its contract: each check gives what its contract promises, in the order of the definition.
+use Rattle.std.proofs.Common.{refl}
 use Rattle.numbers.specs.Refusal.{number}
 use Rattle.path.specs.Path.{is_power, is_filter}
 use Rattle.path.specs.Bounce.{check_rest}
@@ -21,4 +22,4 @@ returns c =
       ← c.in_ok-refuse-3.ensures,
       c.refuse-4.ensures,
       c.all_shares-3.ensures,
-    )
+    ) refl

@@ -1,4 +1,5 @@
 -- `path::weight::metal_share` meets its contract: by its two tests.
+use Rattle.std.proofs.Common.{refl}
 use lib.Ieee.{of_bits}
 use Rattle.path.specs.Bounce.{metal_share}
 use Rattle.path.proofs.weight.metal_share.Goals as goal
@@ -13,4 +14,4 @@ returns-then-f c = rw (← c.is_nan.ensures.value, c.if-is_nan.false, c.if-f.tru
 
 pub returns-else-f : goal.returns-else-f
 unfolding metal_share of_bits
-returns-else-f c = rw (← c.is_nan.ensures.value, c.if-is_nan.false, c.if-f.false)
+returns-else-f c = rw (← c.is_nan.ensures.value, c.if-is_nan.false, c.if-f.false) refl

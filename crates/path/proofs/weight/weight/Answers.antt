@@ -1,4 +1,5 @@
 -- `path::weight::weight` meets its contract: by the test of the wavelength.
+use Rattle.std.proofs.Common.{refl}
 use lib.Ieee.{of_bits}
 use Rattle.path.specs.Bounce.{weight}
 use Rattle.path.proofs.weight.weight.Goals as goal
@@ -9,4 +10,4 @@ returns-then-wl c = rw c.if-wl.true
 
 pub returns-else-wl : goal.returns-else-wl
 unfolding weight of_bits
-returns-else-wl c = rw c.if-wl.false
+returns-else-wl c = rw c.if-wl.false refl

@@ -1,4 +1,5 @@
 -- `optics::microfacet::View::g_over_g1` meets its contract: the calls give what their contracts promise, and the definition is read in the same order.
+use Rattle.std.proofs.Common.{refl}
 use Rattle.optics.specs.SharedTerms.{g_over_g1_at}
 use lib.Ieee.{of_bits}
 use Rattle.optics.proofs.microfacet.View.g_over_g1.Goals as goal
@@ -20,7 +21,7 @@ returns-then-chi_pass_at c =
       c.if-chi_pass_at.true,
       c.if-g1.false,
       ← c.lambda.ensures,
-    )
+    ) refl
 
 pub returns : goal.returns
 unfolding g_over_g1_at of_bits
