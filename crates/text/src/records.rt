@@ -9,8 +9,8 @@ use std::io::Read;
 // A proved loop has to end: no file has so many records.
 pub const MOST: u64 = 1000000000;
 
-// What stands for a decimal that is none. By hand, no Option: a record's number is looked up or compared, and this one,
-// which five digits can't say, is none of those that are.
+// What stands for a decimal that is none; five digits can't say it. By hand, no Option: no function and no refusal has
+// this number, and no list so many entries, so that the record differs wherever it is looked up.
 const NO_NUMBER: u64 = 100000;
 
 // The next `N` bytes, if so many come.
