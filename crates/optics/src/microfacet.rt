@@ -19,10 +19,9 @@ use floats::float;
 use floats::square_root::{sqrt, sqrt_or_zero};
 use numbers::complex::Complex;
 use numbers::dense_spectrum::{DenseSpectrum, GridPoint, TERMINATED};
-use numbers::spherical_utils::azimuth;
 use numbers::vec2::Vec2;
 use numbers::vec3::Vec3;
-use numbers::EPSILON;
+use numbers::{EPSILON, spherical_utils};
 use std::marker::Model;
 
 pub const PI: f64 = 3.141592653589793;
@@ -316,43 +315,38 @@ impl Ggx {
     }
 
     // The microfacet distribution function of GGX, at a microsurface normal in shading space.
-    #[tactic(auto, unfolding(crate::specs::Facets::d, numbers::specs::SphericalUtils::tan2_theta, numbers::specs::SphericalUtils::sin2_theta, numbers::specs::SphericalUtils::cos2_theta))]
+    #[tactic(auto, unfolding(crate::specs::Facets::d))]
     pub fn d(self, wh: Vec3) -> f64
         ensures { result ≡ d self.roughness wh }
     {
-        let cos2_theta = wh.z * wh.z;
-        let sin2_theta = float::max(1.0 - cos2_theta, 0.0);
-        let tan2_theta = sin2_theta / cos2_theta;
+        let tan2_theta = spherical_utils::tan2_theta(wh);
         if float::is_infinite(tan2_theta) {
             return 0.0;
         }
-        let cos4_theta = cos2_theta * cos2_theta;
-        if cos4_theta < EPSILON * EPSILON {
+        let cos4_theta = float::powi2(spherical_utils::cos2_theta(wh));
+        if cos4_theta < float::powi2(EPSILON) {
             return 0.0;
         }
-        let sin_theta = sqrt(sin2_theta);
-        let x = azimuth(wh.x, sin_theta, 1.0) / self.roughness.x;
-        let y = azimuth(wh.y, sin_theta, 0.0) / self.roughness.y;
-        let e = 1.0 + tan2_theta * (x * x + y * y);
+        let x = spherical_utils::cos_phi(wh) / self.roughness.x;
+        let y = spherical_utils::sin_phi(wh) / self.roughness.y;
+        let e = tan2_theta * (float::powi2(x) + float::powi2(y));
 
-        1.0 / (PI * (self.roughness.x * self.roughness.y) * cos4_theta * (e * e))
+        let alpha2 = self.roughness.x * self.roughness.y;
+        1.0 / (PI * alpha2 * cos4_theta * float::powi2(1.0 + e))
     }
 
     // Lambda function used in the definition of the shadow-masking term, in PBR Chapter 8.4.3.
-    #[tactic(auto, unfolding(crate::specs::Facets::lambda, numbers::specs::SphericalUtils::tan2_theta, numbers::specs::SphericalUtils::sin2_theta, numbers::specs::SphericalUtils::cos2_theta))]
+    #[tactic(auto, unfolding(crate::specs::Facets::lambda))]
     pub fn lambda(self, w: Vec3) -> f64
         ensures { result ≡ lambda self.roughness w }
     {
-        let cos2_theta = w.z * w.z;
-        let sin2_theta = float::max(1.0 - cos2_theta, 0.0);
-        let tan2_theta = sin2_theta / cos2_theta;
+        let tan2_theta = spherical_utils::tan2_theta(w);
         if float::is_infinite(tan2_theta) {
             return 0.0;
         }
-        let sin_theta = sqrt(sin2_theta);
-        let x = self.roughness.x * azimuth(w.x, sin_theta, 1.0);
-        let y = self.roughness.y * azimuth(w.y, sin_theta, 0.0);
-        let alpha2 = x * x + y * y;
+        let x = self.roughness.x * spherical_utils::cos_phi(w);
+        let y = self.roughness.y * spherical_utils::sin_phi(w);
+        let alpha2 = float::powi2(x) + float::powi2(y);
 
         (sqrt_or_zero(1.0 + alpha2 * tan2_theta) - 1.0) / 2.0
     }
