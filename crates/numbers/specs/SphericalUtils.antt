@@ -30,7 +30,7 @@ cos_phi w = cond (eq (sin_theta w) f0) f1 (clamp f_1 f1 (w.x ⊘ sin_theta w))
 unfoldable pub sin_phi : Vec3 → Float
 sin_phi w = cond (eq (sin_theta w) f0) f0 (clamp f_1 f1 (w.y ⊘ sin_theta w))
 
--- either with the sine of θ at hand, for who reads it twice: cos φ by the part along x, sin φ by that along y; `pole` where the sine is 0
+-- either from the sine of θ: cos φ by the part along x, sin φ by that along y; `pole` where the sine is 0
 unfoldable pub azimuth : Float → Float → Float → Float
 azimuth part sin pole = cond (eq sin f0) pole (clamp f_1 f1 (part ⊘ sin))
 

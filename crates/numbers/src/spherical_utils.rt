@@ -29,7 +29,7 @@ pub fn sin_phi(w: Vec3) -> f64
 }
 
 // The cosine or the sine of φ, from the direction's part along x or y and the sine of θ; `pole` where there is no φ.
-pub fn azimuth(part: f64, sin: f64, pole: f64) -> f64
+fn azimuth(part: f64, sin: f64, pole: f64) -> f64
     ensures { result ≡ azimuth part sin pole }
 {
     if sin == 0.0 {
@@ -73,10 +73,9 @@ pub fn sin2_theta(w: Vec3) -> f64
     float::max(1.0 - cos2_theta(w), 0.0)
 }
 
-#[tactic(auto, unfolding(crate::specs::SphericalUtils::tan2_theta, crate::specs::SphericalUtils::sin2_theta, crate::specs::SphericalUtils::cos2_theta))]
+#[tactic(auto, unfolding(crate::specs::SphericalUtils::tan2_theta))]
 pub fn tan2_theta(w: Vec3) -> f64
     ensures { result ≡ tan2_theta w }
 {
-    let cos2 = w.z * w.z;
-    float::max(1.0 - cos2, 0.0) / cos2
+    sin2_theta(w) / cos2_theta(w)
 }

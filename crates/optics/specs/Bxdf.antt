@@ -1,5 +1,5 @@
 -- Mirror, bend and the samplers of metal and glass, in the order of operations of lumo's src/tracer/bxdf/microfacet.rs. Definitions only.
-use Rattle.std.specs.Prelude.{Bool, true, false, ◌||◌, cond, Float, Option, Some, None}
+use Rattle.std.specs.Prelude.{Bool, true, false, ◌||◌, cond, Float, Option, Some, None, Result, Ok, Err}
 use Rattle.std.specs.Float.Ieee.{neg, lt, eq}
 use Rattle.floats.specs.Float.{◌⊕◌, ◌⊖◌, ◌⊘◌, f0, f1, f2}
 use Rattle.numbers.specs.Vec3.{vec3, Z, add, sub, float_mul, div_float, negate, dot, project_onto}
@@ -8,7 +8,7 @@ use Rattle.numbers.specs.declared.{vec2.Vec2.Vec2, vec3.Vec3.Vec3}
 use Rattle.optics.specs.Facets.{is_delta}
 use Rattle.optics.specs.Fresnel.{sin2_i, is_total, cos_i, f_at}
 use Rattle.optics.specs.Sampler.{sample_normal}
-pub use Rattle.optics.specs.declared.bxdf.{Refracted.Refracted, Sampled.Sampled}
+pub use Rattle.optics.specs.declared.bxdf.{NoDirection.NoDirection, NoDirection.TheVariants.WrongSide, NoDirection.TheVariants.Total, Sample.Sample}
 
 -- what a mirror or a bend answers: a direction, none, or total reflection where the Rust has `unreachable!`
 pub data Outgoing : Type 0 where
@@ -20,10 +20,10 @@ unfoldable pub reflected : Option Vec3 → Outgoing
 reflected (Some wi) = direction wi
 reflected None = none
 
-unfoldable pub refracted : Refracted → Outgoing
-refracted (Refracted.Direction wi) = direction wi
-refracted Refracted.None = none
-refracted Refracted.Total = total
+unfoldable pub refracted : Result Vec3 NoDirection → Outgoing
+refracted (Ok wi) = direction wi
+refracted (Err WrongSide) = none
+refracted (Err Total) = total
 
 -- ---- mirror: 2 (wo · n) n / (n · n) - wo, on wo's side of the surface
 unfoldable pub mirrored : Vec3 → Vec3 → Vec3
@@ -57,10 +57,13 @@ pub data Scattered : Type 0 where
   lost : Scattered
   totally : Scattered
 
-unfoldable pub sampled : Sampled → Scattered
-sampled (Sampled.Direction wi reflection) = scattered wi reflection
-sampled Sampled.None = lost
-sampled Sampled.Total = totally
+abbrev pub sample : Vec3 → Bool → Sample
+sample wi reflection = record { wi = wi; reflection = reflection }
+
+unfoldable pub sampled : Result Sample NoDirection → Scattered
+sampled (Ok s) = scattered s.wi s.reflection
+sampled (Err WrongSide) = lost
+sampled (Err Total) = totally
 
 -- a mirrored or bent direction, with the branch
 unfoldable pub branch : Bool → Outgoing → Scattered

@@ -1,5 +1,5 @@
 // Mirror and bend, and lumo's `BxDF` for metal and glass: src/tracer/bxdf/microfacet.rs, bxdf.rs.
-use crate::microfacet::{Ggx, Kind, Snell};
+use crate::microfacet::{Ggx, Kind, OpticalConstants, Snell};
 use numbers::vec3::Vec3;
 use numbers::{EPSILON, spherical_utils};
 
@@ -11,55 +11,25 @@ ghost use Rattle.optics.specs.Bxdf.{reflected, refracted, reflect, refract, samp
 ghost use Rattle.optics.specs.Density.{at_z, pdf_of};
 ghost use Rattle.optics.specs.SharedTerms.{refract_facing_from, refract_from};
 
-// What a bend answers: `Total` at total internal reflection. By hand: there are two ways to give no direction, which
-// C's answer tells apart, and an Option in a Result would say no more than the names.
-#[derive(Clone, Copy)]
-pub enum Refracted {
-    Direction(Vec3),
-    None,
+// Why there is no direction: it would lie on the wrong side of the surface, or light is reflected totally.
+#[derive(Clone, Copy, PartialEq, Eq, Debug)]
+pub enum NoDirection {
+    WrongSide,
     Total,
 }
 
-// What a sampler answers: a direction, and whether it is a reflection. By hand, as `Refracted`.
+// What a bend answers.
+pub type Refracted = Result<Vec3, NoDirection>;
+
+// A sampled direction, and whether it is a reflection.
 #[derive(Clone, Copy)]
-pub enum Sampled {
-    Direction { wi: Vec3, reflection: bool },
-    None,
-    Total,
+pub struct Sample {
+    pub wi: Vec3,
+    pub reflection: bool,
 }
 
-impl From<Option<Vec3>> for Sampled {
-    ghost from_gives = { λ wi s. sampled s ≡ branch true (reflected wi) };
-
-    // A mirrored direction.
-    #[tactic(auto, unfolding(crate::specs::Bxdf::branch, crate::specs::Bxdf::reflected, crate::specs::Bxdf::sampled))]
-    fn from(wi: Option<Vec3>) -> Sampled {
-        match wi {
-            Some(wi) => Sampled::Direction {
-                wi,
-                reflection: true,
-            },
-            None => Sampled::None,
-        }
-    }
-}
-
-impl From<Refracted> for Sampled {
-    ghost from_gives = { λ wi s. sampled s ≡ branch false (refracted wi) };
-
-    // A bent direction.
-    #[tactic(auto, unfolding(crate::specs::Bxdf::branch, crate::specs::Bxdf::refracted, crate::specs::Bxdf::sampled))]
-    fn from(wi: Refracted) -> Sampled {
-        match wi {
-            Refracted::Direction(bent) => Sampled::Direction {
-                wi: bent,
-                reflection: false,
-            },
-            Refracted::None => Sampled::None,
-            Refracted::Total => Sampled::Total,
-        }
-    }
-}
+// What a sampler answers.
+pub type Sampled = Result<Sample, NoDirection>;
 
 // The mirrored direction, if it is on `wo`'s side.
 pub fn reflect(wo: Vec3, n: Vec3) -> Option<Vec3>
@@ -98,21 +68,51 @@ fn refract_facing(snell: Snell, cos_to: f64, wo: Vec3, n: Vec3) -> Refracted
 {
     // total internal reflection
     if snell.sin2 >= 1.0 {
-        return Refracted::Total;
+        return Err(NoDirection::Total);
     }
 
     let wi = -wo / snell.eta + (cos_to / snell.eta - snell.cos) * n;
     if spherical_utils::same_hemisphere(wi, wo) {
-        return Refracted::None;
+        return Err(NoDirection::WrongSide);
     }
-    Refracted::Direction(wi)
+    Ok(wi)
 }
 
-// The density of the sampled directions, on local directions; `eta` and `k` are those at the leading
-// wavelength.
+// The mirrored direction as a sample.
+#[tactic(auto, unfolding(crate::specs::Bxdf::branch, crate::specs::Bxdf::reflected, crate::specs::Bxdf::sampled))]
+fn sample_mirrored(wo: Vec3, wh: Vec3) -> Sampled
+    ensures { sampled result ≡ branch true (reflect wo wh) }
+{
+    let wi = reflect(wo, wh).ok_or(NoDirection::WrongSide)?;
+    Ok(Sample {
+        wi,
+        reflection: true,
+    })
+}
+
+// The bent direction as a sample.
+#[tactic(auto, unfolding(crate::specs::Bxdf::branch, crate::specs::Bxdf::refracted, crate::specs::Bxdf::sampled))]
+fn sample_bent(snell: Snell, wo: Vec3, wh: Vec3) -> Sampled
+    ensures { sampled result ≡ branch false (refract_from snell wo wh) }
+{
+    let wi = refract_from(snell, wo, wh)?;
+    Ok(Sample {
+        wi,
+        reflection: false,
+    })
+}
+
+// The density of the sampled directions, on local directions; `at` is what the leading wavelength has.
 #[tactic(auto, unfolding(crate::specs::Density::pdf_of))]
-pub fn pdf(kind: Kind, mfd: Ggx, wo: Vec3, wi: Vec3, reflection: bool, eta: f64, k: f64) -> f64
-    ensures { result ≡ pdf_of kind mfd.roughness eta k reflection wo wi }
+pub fn pdf(
+    kind: Kind,
+    mfd: Ggx,
+    wo: Vec3,
+    wi: Vec3,
+    reflection: bool,
+    at: OpticalConstants,
+) -> f64
+    ensures { result ≡ pdf_of kind mfd.roughness at.eta at.k reflection wo wi }
 {
     match kind {
         Kind::Metal => {
@@ -121,7 +121,7 @@ pub fn pdf(kind: Kind, mfd: Ggx, wo: Vec3, wi: Vec3, reflection: bool, eta: f64,
             }
             0.0
         }
-        Kind::Glass => dielectric::pdf(wo, wi, reflection, mfd, eta, k),
+        Kind::Glass => dielectric::pdf(wo, wi, reflection, mfd, at),
     }
 }
 

@@ -2,7 +2,8 @@
 // a random number, a point of the circle.
 ghost use Rattle.std.specs.Prelude.{◌≡◌};
 ghost use Rattle.numbers.specs.Refusal.{verdict};
-ghost use Rattle.optics.specs.Surface.{medium, is_roughness, roughness_holds, eta_holds, is_eta, all_zero, k_entries_hold, k_holds, outer_holds};
+ghost use Rattle.numbers.specs.DenseSpectrum.{all_within};
+ghost use Rattle.optics.specs.Surface.{medium, is_roughness, roughness_holds, eta_min, eta_max, eta_holds, is_eta, all_zero, k_entries_hold, k_holds, outer_holds};
 ghost use Rattle.optics.specs.Check.{check_spectra, check_surface, check_eta, check_lookups, check_random, is_circle_pair, check_circle_pair};
 
 use crate::color::Color;
@@ -43,11 +44,18 @@ fn is_eta(eta: f64) -> bool
     float::within(ETA_MIN, ETA_MAX, eta)
 }
 
+// Whether every entry lies within the limits of an index.
+fn all_indices(spectrum: &DenseSpectrum<'_>) -> bool
+    ensures { result ≡ all_within eta_min eta_max spectrum.now }
+{
+    spectrum.all_within(ETA_MIN, ETA_MAX)
+}
+
 #[tactic(auto, unfolding(crate::specs::Surface::eta_holds))]
 fn eta_holds(eta: &DenseSpectrum<'_>) -> bool
     ensures { result ≡ eta_holds eta.now }
 {
-    eta.is_table() && eta.all_within(ETA_MIN, ETA_MAX)
+    eta.is_table() && all_indices(eta)
 }
 
 #[tactic(auto, unfolding(crate::specs::Surface::all_zero))]
@@ -64,10 +72,7 @@ fn k_entries_hold(kind: Kind, k: &DenseSpectrum<'_>) -> bool
     match kind {
         Kind::Metal => {
             // first what metal mostly has
-            if k.all_within(K_MIN, K_MAX) {
-                return true;
-            }
-            all_zero(k)
+            k.all_within(K_MIN, K_MAX) || all_zero(k)
         }
         Kind::Glass => all_zero(k),
     }
@@ -78,10 +83,7 @@ fn k_entries_hold(kind: Kind, k: &DenseSpectrum<'_>) -> bool
 fn k_holds(kind: Kind, eta: &DenseSpectrum<'_>, k: &DenseSpectrum<'_>) -> bool
     ensures { result ≡ k_holds kind eta.now k.now }
 {
-    if k.is_table() {
-        return eta.one_spacing(k) && k_entries_hold(kind, k);
-    }
-    false
+    k.is_table() && eta.one_spacing(k) && k_entries_hold(kind, k)
 }
 
 // On glass a table of as many entries as eta has, all within eta's limits; metal has no outer spectrum. Of what is no
@@ -93,10 +95,7 @@ fn outer_holds(kind: Kind, eta: &DenseSpectrum<'_>, outer: &DenseSpectrum<'_>) -
     match kind {
         Kind::Metal => true,
         Kind::Glass => {
-            if outer.is_table() {
-                return eta.one_spacing(outer) && outer.all_within(ETA_MIN, ETA_MAX);
-            }
-            false
+            outer.is_table() && eta.one_spacing(outer) && all_indices(outer)
         }
     }
 }

@@ -1,6 +1,6 @@
 // Facets of metal and glass: the GGX half of lumo's src/tracer/microfacet.rs.
 // These take any floats and refuse none; the forms that check stand in the crate `counter`.
-ghost use Rattle.std.specs.Prelude.{◌≡◌, cond};
+ghost use Rattle.std.specs.Prelude.{◌≡◌, cond, false};
 ghost use Rattle.floats.specs.Float.{f0};
 ghost use Rattle.numbers.specs.DenseSpectrum.{entry};
 ghost use Rattle.numbers.specs.GridPoint.{sample_from};
@@ -78,6 +78,17 @@ pub struct Surface {
     pub kind: Kind,
     // Roughness of the surface (α) along x and y
     pub roughness: Vec2,
+}
+
+impl Surface {
+    // The surface's facets.
+    pub fn facets(self) -> Ggx
+        ensures { result.roughness ≡ self.roughness }
+    {
+        Ggx {
+            roughness: self.roughness,
+        }
+    }
 }
 
 // A surface's spectra, which are lent: the refraction index eta, the absorption coefficient k, and the outer spectrum,
@@ -186,15 +197,13 @@ pub fn eta_at(eta: &DenseSpectrum<'_>, wl: f64) -> f64
 }
 
 // The absorption coefficient at one wavelength, with eta's spacing.
-pub fn k_at(spectra: &Spectra<'_>, wl: f64) -> f64
-    ensures { result ≡ k_at spectra.now.eta spectra.now.k wl }
+pub fn k_at(eta: &DenseSpectrum<'_>, k: &DenseSpectrum<'_>, wl: f64) -> f64
+    ensures { result ≡ k_at eta.now k.now wl }
 {
-    let step = spectra.eta.step();
-    spectra.k.sample_from(GridPoint::new(step, wl))
+    k.sample_from(GridPoint::new(eta.step(), wl))
 }
 
-// The index and the absorption coefficient: `eta` is on glass already divided by what lies outside. By hand, the
-// functions that the comparison calls by themselves take the two one by one, as lumo's do.
+// The index and the absorption coefficient at a wavelength: `eta` is on glass already divided by what lies outside.
 #[derive(Clone, Copy)]
 pub struct OpticalConstants {
     pub eta: f64,
@@ -264,7 +273,7 @@ fn outer_at(outer_constant: bool, outer: &DenseSpectrum<'_>, point: GridPoint) -
     outer.sample_from(point)
 }
 
-// What metal's spectra have at one wavelength: `step` is eta's, and outside nothing is read.
+// What metal's spectra have at one wavelength, eta's entries being `step` apart; the outer spectrum is not read.
 fn metal_constants_at(step: f64, spectra: &Spectra<'_>, wl: f64) -> OpticalConstants
     ensures { (result.eta ≡ eta_from step spectra.now.eta wl) × (result.k ≡ k_from step spectra.now.k wl) }
 {
@@ -281,6 +290,14 @@ pub fn f_schlick(f0: f64, f90: f64, cos_theta: f64) -> f64
     ensures { result ≡ f_schlick f0 f90 cos_theta }
 {
     f0 + (f90 - f0) * float::powi5(1.0 - cos_theta)
+}
+
+// A point of the unit disk: the disk number, whose root is the radius, and the cosine and the sine of the angle.
+#[derive(Clone, Copy)]
+pub struct DiskPoint {
+    pub disk: f64,
+    pub c: f64,
+    pub s: f64,
 }
 
 // The facets' distribution, GGX's: the surface's roughness, and nothing that has to be checked anew.
@@ -367,21 +384,28 @@ impl Ggx {
     pub fn g1(self, wo: Vec3, wh: Vec3) -> f64
         ensures { result ≡ g1 self.roughness wo wh }
     {
-        View::new(self, false, wo).g1(wo.dot(wh), wh)
+        self.seen_from(wo).g1(wo.dot(wh), wh)
+    }
+
+    // The facets as `wo` sees them, where they scatter into many directions.
+    fn seen_from(self, wo: Vec3) -> View
+        ensures { (result.mfd ≡ self) × (result.wo ≡ wo) × (result.one_direction ≡ false) × (result.lambda_wo ≡ lambda self.roughness wo) }
+    {
+        View::new(self, false, wo)
     }
 
     // `g` over `g1`, and 0 where `g1` is 0.
     pub fn g_over_g1(self, wo: Vec3, wi: Vec3, wh: Vec3) -> f64
         ensures { result ≡ g_over_g1 self.roughness wo wi wh }
     {
-        View::new(self, false, wo).g_over_g1(wo.dot(wh), wi, wh)
+        self.seen_from(wo).g_over_g1(wo.dot(wh), wi, wh)
     }
 
     // Probability that `wh` got sampled. `wh` and `wo` in shading space.
     pub fn sample_normal_pdf(self, wh: Vec3, wo: Vec3) -> f64
         ensures { result ≡ sample_normal_pdf self.roughness wh wo }
     {
-        View::new(self, false, wo).sample_normal_pdf(wo.dot(wh), wh)
+        self.seen_from(wo).sample_normal_pdf(wo.dot(wh), wh)
     }
 
     // `wo` in the hemisphere's configuration, on the side of the geometric normal.
@@ -409,19 +433,17 @@ impl Ggx {
         .normalize()
     }
 
-    // Sampling microfacet normals (Heitz 2018) for importance sampling. `wo` in shading space;
-    // `disk` is the disk number, `c` and `s` the cosine and the sine of the disk's angle. By hand, one by one: so C hands
-    // them over, in its calls and in the record of a bounce.
+    // Sampling microfacet normals (Heitz 2018) for importance sampling. `wo` in shading space
     #[tactic(auto, unfolding(crate::specs::Sampler::sample_normal))]
-    pub fn sample_normal(self, wo: Vec3, disk: f64, c: f64, s: f64) -> Vec3
-        ensures { result ≡ sample_normal self.roughness wo disk c s }
+    pub fn sample_normal(self, wo: Vec3, p: DiskPoint) -> Vec3
+        ensures { result ≡ sample_normal self.roughness wo p.disk p.c p.s }
     {
         // in this order a root is begun as soon as what it is of is there
-        let r = sqrt(disk);
+        let r = sqrt(p.disk);
         // Map the GGX ellipsoid to a hemisphere
         let v = self.viewed(wo);
         // compute normal in hemisphere configuration
-        let wm = on_hemisphere(v, r, c, s);
+        let wm = on_hemisphere(v, r, p.c, p.s);
         // ONB basis of the hemisphere configuration
         let u = tangent(v);
         // move back to ellipsoid
@@ -429,18 +451,19 @@ impl Ggx {
     }
 
     // The facet's normal: Z where the surface scatters into one direction.
-    pub(crate) fn normal(self, one_direction: bool, wo: Vec3, disk: f64, c: f64, s: f64) -> Vec3
-        ensures { result ≡ cond «one_direction» Z (sample_normal self.roughness wo disk c s) }
+    pub(crate) fn normal(self, one_direction: bool, wo: Vec3, p: DiskPoint) -> Vec3
+        ensures { result ≡ cond «one_direction» Z (sample_normal self.roughness wo p.disk p.c p.s) }
     {
         if one_direction {
             return Vec3::Z;
         }
-        self.sample_normal(wo, disk, c, s)
+        self.sample_normal(wo, p)
     }
 }
 
 // The facets as `wo` sees them: Λ(wo), two roots, is worked once for all that read it. Where the surface scatters into
-// one direction nothing does, and it is 0. By hand, a flag with a number: the definitions read the two apart.
+// one direction nothing reads it, and it is 0. By hand, no Option: who hands on a Λ(wo) may hand on any, beside either
+// flag, as the definitions have it.
 #[derive(Clone, Copy)]
 pub struct View {
     pub mfd: Ggx,
@@ -578,7 +601,8 @@ fn f_on_glass(reading: Reading, spectra: &Spectra<'_>, wo: Vec3, wh: Vec3, lambd
     lambda.map(move |wl| reading.constants_at(spectra, wl).fresnel(cos_o))
 }
 
-// On metal, whose eta's step is `step`.
+// On metal, eta's entries being `step` apart. By hand beside `f_on_glass`: the two differ in what they know of the
+// spectra, and are a line each.
 #[tactic(auto, unfolding(crate::specs::SharedTerms::f_metal_from, crate::specs::Fresnel::f_at))]
 pub fn f_on_metal(step: f64, spectra: &Spectra<'_>, wo: Vec3, wh: Vec3, lambda: Color) -> Color
     ensures { result ≡ f_metal_from step spectra.now.eta spectra.now.k wo wh lambda }

@@ -1,6 +1,6 @@
 -- What a bounce that isn't refused answers, from what its stages gave, one after the other: on metal (`metal_backface`, `metal_lost`, `metal_sent`)
 -- and on glass (`glass_lost`, `glass_sent`). The stages are variables here, so that a definition is opened where it is small.
-use Rattle.std.proofs.Common.{◌≡◌, Some, None, Bool, true, false, cond, List, ap, ◌∙◌}
+use Rattle.std.proofs.Common.{◌≡◌, Ok, Some, None, Bool, true, false, cond, List, ap, ◌∙◌}
 use lib.Ieee.{Float}
 use Rattle.floats.specs.Float.{f0}
 use Rattle.numbers.specs.Onb.{basis, to_local, to_world}
@@ -12,10 +12,8 @@ use Rattle.optics.specs.Known.{known_on_glass}
 use Rattle.optics.specs.declared.microfacet.Known.{Known}
 use Rattle.optics.specs.Facets.{is_delta}
 use Rattle.optics.specs.Fresnel.{f_at, f}
-use Rattle.optics.specs.Bxdf.{sampled, rest, is_smooth, conductor_normal, conductor_from, dielectric_normal, dielectric_from}
+use Rattle.optics.specs.Bxdf.{sample, sampled, rest, is_smooth, conductor_normal, conductor_from, dielectric_normal, dielectric_from}
 use Rattle.optics.specs.Density.{pdf, pdf_of, conductor_pdf, dielectric_pdf}
-use Rattle.optics.specs.declared.bxdf.Sampled.{Sampled}
-use Rattle.optics.specs.declared.bxdf.Sampled.TheVariants.{Direction}
 use Rattle.optics.specs.declared.color.Color.{Color}
 use Rattle.optics.specs.declared.microfacet.Kind.TheVariants.{Metal, Glass}
 use Rattle.path.specs.declared.records.Path.{Path}
@@ -23,7 +21,7 @@ use Rattle.path.specs.declared.records.Bounce.{Bounce}
 use Rattle.path.specs.Path.{path, each2, weighed, leading, terminate}
 use Rattle.path.specs.Bounce.{advanced, lambda_on, left_on, left_on_glass, scatter, scatter_on, local_wo, leading_index, facet, facet_of, share, weights, weights_from, weights_of, weight_from, filter, metal_filter, fresnel_at, shadowing, shadowing_on, one_direction}
 use Rattle.path.specs.Answer.{two_shares, lost, reflected, on_surface, worked, shares, shares_on, branch_of, density, density_of}
-use Rattle.path.proofs.Direction.{Directionless, no_direction, no_weights, metal-reflects}
+use Rattle.path.proofs.Direction.{Sampled, Directionless, no_direction, no_weights, metal-reflects}
 
 abbrev dark : Color
 dark = color f0 f0 f0 f0
@@ -48,7 +46,7 @@ pub metal_sent : (p : Path) (m : Microsurface) (b : Bounce) → m.kind ≡ Metal
     → (u : Onb) → u ≡ basis b.normal
     → (wo : Vec3) → wo ≡ to_local u b.wo
     → (wh : Vec3) → wh ≡ conductor_normal m.roughness wo b.disk b.c b.s
-    → (s : Sampled) → sampled s ≡ conductor_from m.roughness wo wh → (wi : Vec3) (r : Bool) → s ≡ Direction wi r
+    → (s : Sampled) → sampled s ≡ conductor_from m.roughness wo wh → (wi : Vec3) (r : Bool) → s ≡ Ok (sample wi r)
     → on_surface p m b
     ≡ reflected (to_world u wi) (density_of (conductor_pdf m.roughness wo wi)) None (path p.lambda (weighed p.power
     (weights_of p.lambda (each2 metal_filter b.ks (f Metal m.eta m.k m.outside wo wh p.lambda)) (shadowing (is_delta m.roughness) m.roughness wo wi wh))))
@@ -82,7 +80,7 @@ pub glass_sent : (p : Path) (m : Microsurface) (b : Bounce) → m.kind ≡ Glass
     → (wo : Vec3) → wo ≡ to_local u b.wo
     → (wh : Vec3) → wh ≡ dielectric_normal m.roughness n wo b.disk b.c b.s
     → (F : Float) → F ≡ f_at wo wh n x
-    → (s : Sampled) → sampled s ≡ dielectric_from n F b.u wo wh → (wi : Vec3) (r : Bool) → s ≡ Direction wi r
+    → (s : Sampled) → sampled s ≡ dielectric_from n F b.u wo wh → (wi : Vec3) (r : Bool) → s ≡ Ok (sample wi r)
     → on_surface p m b
     ≡ branch_of r (to_world u wi) (density_of (dielectric_pdf m.roughness n x r wo wi)) (Some (two_shares F (rest F))) (path l (weighed p.power
     (weights_of l (each2 (cond r) b.ks b.tf) (shadowing (is_smooth m.roughness n) m.roughness wo wi wh))))

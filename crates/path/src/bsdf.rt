@@ -20,10 +20,10 @@ use floats::float;
 use numbers::onb::Onb;
 use numbers::refusal::Refusal;
 use numbers::vec3::Vec3;
-use optics::bxdf::{Sampled, conductor, dielectric};
+use optics::bxdf::{Sample, conductor, dielectric};
 use optics::color::Color;
 use optics::microfacet;
-use optics::microfacet::{Ggx, Known, Microsurface, Snell};
+use optics::microfacet::{Known, Microsurface, Snell};
 
 // A bounce of `path` on a surface.
 pub fn bounce(path: Path, m: &Microsurface<'_>, b: Bounce) -> Bounced
@@ -63,12 +63,11 @@ fn on_metal(step: f64, path: Path, m: &Microsurface<'_>, b: Bounce) -> Bounced
 
     let uvw = Onb::new(b.normal);
     let wo = uvw.to_local(b.wo);
-    let roughness = m.surface.roughness;
-    let mfd = Ggx { roughness };
-    let wh = conductor::normal(wo, mfd, b.disk, b.c, b.s);
+    let mfd = m.surface.facets();
+    let wh = conductor::normal(wo, mfd, b.disk_point());
     // the roots of Λ(wo) wait for no other: they are worked while those of the normal are waited for
     let facet = Facet::on_metal(mfd, wo, wh);
-    let Sampled::Direction { wi, .. } = conductor::sample_from(wo, mfd, wh) else {
+    let Ok(Sample { wi, .. }) = conductor::sample_from(wo, mfd, wh) else {
         return lost(path, None);
     };
 
@@ -98,9 +97,8 @@ fn on_glass(known: Known, path: Path, m: &Microsurface<'_>, b: Bounce) -> Bounce
 
     let uvw = Onb::new(b.normal);
     let wo = uvw.to_local(b.wo);
-    let roughness = m.surface.roughness;
-    let mfd = Ggx { roughness };
-    let wh = dielectric::normal(wo, mfd, at.eta, b.disk, b.c, b.s);
+    let mfd = m.surface.facets();
+    let wh = dielectric::normal(wo, mfd, at.eta, b.disk_point());
     // the roots of Λ(wo) wait for no other: they are worked while those of the normal are waited for
     let facet = Facet::on_glass(mfd, at.eta, wo, wh);
     // the share that is reflected and the bend read the same root, that of Snell's law
@@ -110,8 +108,7 @@ fn on_glass(known: Known, path: Path, m: &Microsurface<'_>, b: Bounce) -> Bounce
         reflected: f,
         passed: 1.0 - f,
     });
-    let Sampled::Direction { wi, reflection } = dielectric::sample_from(snell, wo, wh, f, b.u)
-    else {
+    let Ok(Sample { wi, reflection }) = dielectric::sample_from(snell, wo, wh, f, b.u) else {
         return lost(left, shares);
     };
 

@@ -8,6 +8,7 @@ use crate::wavelength;
 use numbers::refusal::{Refusal, refuse};
 use numbers::vec3::Vec3;
 use optics::color::Color;
+use optics::microfacet::DiskPoint;
 
 // Four wavelengths, each with the power that is left. 0 is a wavelength that was ended; the first,
 // the leading one, never is.
@@ -33,6 +34,19 @@ pub struct Bounce {
     pub s: f64,
     pub ks: Color,
     pub tf: Color,
+}
+
+impl Bounce {
+    // The point of the disk at which a facet's normal is sampled.
+    pub fn disk_point(self) -> DiskPoint
+        ensures { (result.disk ≡ self.disk) × (result.c ≡ self.c) × (result.s ≡ self.s) }
+    {
+        DiskPoint {
+            disk: self.disk,
+            c: self.c,
+            s: self.s,
+        }
+    }
 }
 
 // The shares of reflected and passed light at the leading wavelength, which glass has.

@@ -6,18 +6,18 @@ ghost use Rattle.optics.specs.SharedTerms.{sample_normal_pdf_at};
 ghost use Rattle.optics.specs.Density.{conductor_half, conductor_pdf_from, conductor_pdf};
 
 use crate::bxdf;
-use crate::bxdf::Sampled;
-use crate::microfacet::{Ggx, View, on_z_side};
+use crate::bxdf::{Sample, Sampled};
+use crate::microfacet::{DiskPoint, Ggx, View, on_z_side};
 use floats::float;
 use numbers::spherical_utils;
 use numbers::vec3::Vec3;
 
 // The facet's normal: Z if delta.
 #[tactic(auto, unfolding(crate::specs::Bxdf::conductor_normal))]
-pub fn normal(wo: Vec3, mfd: Ggx, disk: f64, c: f64, s: f64) -> Vec3
-    ensures { result ≡ conductor_normal mfd.roughness wo disk c s }
+pub fn normal(wo: Vec3, mfd: Ggx, p: DiskPoint) -> Vec3
+    ensures { result ≡ conductor_normal mfd.roughness wo p.disk p.c p.s }
 {
-    mfd.normal(mfd.is_delta(), wo, disk, c, s)
+    mfd.normal(mfd.is_delta(), wo, p)
 }
 
 // The direction that the facet's normal `wh` sends on.
@@ -27,23 +27,24 @@ pub fn sample_from(wo: Vec3, mfd: Ggx, wh: Vec3) -> Sampled
 {
     if mfd.is_delta() {
         // 2.0 * wo.project(Z) - wo = 2.0 * (0, 0, wo.z) - v = (-wo.x, -wo.y, wo.z)
-        return Sampled::Direction {
-            wi: Vec3 {
-                x: -wo.x,
-                y: -wo.y,
-                z: wo.z,
-            },
-            reflection: true,
+        let wi = Vec3 {
+            x: -wo.x,
+            y: -wo.y,
+            z: wo.z,
         };
+        return Ok(Sample {
+            wi,
+            reflection: true,
+        });
     }
-    Sampled::from(bxdf::reflect(wo, wh))
+    bxdf::sample_mirrored(wo, wh)
 }
 
 #[tactic(auto, unfolding(crate::specs::Bxdf::conductor_sample))]
-pub fn sample(wo: Vec3, mfd: Ggx, disk: f64, c: f64, s: f64) -> Sampled
-    ensures { sampled result ≡ conductor_sample mfd.roughness wo disk c s }
+pub fn sample(wo: Vec3, mfd: Ggx, p: DiskPoint) -> Sampled
+    ensures { sampled result ≡ conductor_sample mfd.roughness wo p.disk p.c p.s }
 {
-    sample_from(wo, mfd, normal(wo, mfd, disk, c, s))
+    sample_from(wo, mfd, normal(wo, mfd, p))
 }
 
 pub fn pdf(wo: Vec3, wi: Vec3, mfd: Ggx) -> f64

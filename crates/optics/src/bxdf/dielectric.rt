@@ -8,7 +8,7 @@ ghost use Rattle.optics.specs.SharedTerms.{sample_normal_pdf_at, dielectric_from
 
 use crate::bxdf;
 use crate::bxdf::Sampled;
-use crate::microfacet::{Ggx, OpticalConstants, Snell, View, index_from, on_z_side};
+use crate::microfacet::{DiskPoint, Ggx, OpticalConstants, Snell, View, index_from, on_z_side};
 use floats::float;
 use numbers::vec3::Vec3;
 
@@ -22,10 +22,10 @@ pub fn is_smooth(mfd: Ggx, eta: f64) -> bool
 
 // The facet's normal: Z for delta and index matched glass.
 #[tactic(auto, unfolding(crate::specs::Bxdf::dielectric_normal))]
-pub fn normal(wo: Vec3, mfd: Ggx, eta: f64, disk: f64, c: f64, s: f64) -> Vec3
-    ensures { result ≡ dielectric_normal mfd.roughness eta wo disk c s }
+pub fn normal(wo: Vec3, mfd: Ggx, eta: f64, p: DiskPoint) -> Vec3
+    ensures { result ≡ dielectric_normal mfd.roughness eta wo p.disk p.c p.s }
 {
-    mfd.normal(is_smooth(mfd, eta), wo, disk, c, s)
+    mfd.normal(is_smooth(mfd, eta), wo, p)
 }
 
 // Whether light is reflected, `pr` being the share that is: importance sample reflection/transmission
@@ -44,37 +44,28 @@ pub fn sample_from(snell: Snell, wo: Vec3, wh: Vec3, pr: f64, rand_u: f64) -> Sa
     ensures { sampled result ≡ dielectric_from_snell snell pr rand_u wo wh }
 {
     if reflects(rand_u, pr) {
-        return Sampled::from(bxdf::reflect(wo, wh));
+        return bxdf::sample_mirrored(wo, wh);
     }
-    Sampled::from(bxdf::refract_from(snell, wo, wh))
+    bxdf::sample_bent(snell, wo, wh)
 }
 
-// `eta` and `k` are those at the leading wavelength.
-pub fn sample(
-    wo: Vec3,
-    mfd: Ggx,
-    eta: f64,
-    k: f64,
-    rand_u: f64,
-    disk: f64,
-    c: f64,
-    s: f64,
-) -> Sampled
-    ensures { sampled result ≡ dielectric_sample mfd.roughness eta k wo rand_u disk c s }
+// `at` is what the leading wavelength has.
+pub fn sample(wo: Vec3, mfd: Ggx, at: OpticalConstants, rand_u: f64, p: DiskPoint) -> Sampled
+    ensures { sampled result ≡ dielectric_sample mfd.roughness at.eta at.k wo rand_u p.disk p.c p.s }
 {
-    let wh = normal(wo, mfd, eta, disk, c, s);
-    let snell = Snell::new(wo.dot(wh), eta);
-    let pr = OpticalConstants { eta, k }.fresnel_from(snell);
+    let wh = normal(wo, mfd, at.eta, p);
+    let snell = Snell::new(wo.dot(wh), at.eta);
+    let pr = at.fresnel_from(snell);
     sample_from(snell, wo, wh, pr, rand_u)
 }
 
-pub fn pdf(wo: Vec3, wi: Vec3, reflection: bool, mfd: Ggx, eta: f64, k: f64) -> f64
-    ensures { result ≡ dielectric_pdf mfd.roughness eta k reflection wo wi }
+pub fn pdf(wo: Vec3, wi: Vec3, reflection: bool, mfd: Ggx, at: OpticalConstants) -> f64
+    ensures { result ≡ dielectric_pdf mfd.roughness at.eta at.k reflection wo wi }
 {
-    let view = View::new(mfd, is_smooth(mfd, eta), wo);
-    let ratio = eta_ratio(reflection, wo, eta);
-    let wh = half(eta, ratio, wo, wi);
-    pdf_at(view, wi, wh, reflection, OpticalConstants { eta, k }, ratio)
+    let view = View::new(mfd, is_smooth(mfd, at.eta), wo);
+    let ratio = eta_ratio(reflection, wo, at.eta);
+    let wh = half(at.eta, ratio, wo, wi);
+    pdf_at(view, wi, wh, reflection, at, ratio)
 }
 
 // The index from `wo`'s side to `wi`'s: 1 for a reflection.
@@ -115,7 +106,7 @@ pub fn pdf_at(
     if facet.is_discarded() {
         return 0.0;
     }
-    // the root of the normal's density stands before that of the share: more waits for it
+    // the root of the normal's density stands before that of the share: more of the work waits for it
     let normal_pdf = facet.normal_pdf();
     let pr = at.fresnel(facet.wh_dot_wo);
     if reflection {
@@ -154,16 +145,10 @@ impl Facet {
     fn is_discarded(self) -> bool
         ensures { result ≡ is_discarded self.wh_dot_wo self.wh_dot_wi self.view.wo self.wi }
     {
-        if self.wh_dot_wo == 0.0 {
-            return true;
-        }
-        if self.wh_dot_wi == 0.0 {
-            return true;
-        }
-        if self.wh_dot_wo * self.view.wo.z < 0.0 {
-            return true;
-        }
-        self.wh_dot_wi * self.wi.z < 0.0
+        self.wh_dot_wo == 0.0
+            || self.wh_dot_wi == 0.0
+            || self.wh_dot_wo * self.view.wo.z < 0.0
+            || self.wh_dot_wi * self.wi.z < 0.0
     }
 
     // The density of the facet's normal: 0 where the glass is smooth, since nothing reads it there.

@@ -5,4 +5,4 @@ use Rattle.optics.proofs.microfacet.k_at.Goals as goal
 
 pub returns : goal.returns
 unfolding k_at k_from
-returns c = rw (← c.spectra.view_is, c.sample_from.ensures, c.new.ensures, c.step-step.ensures) (sample_from_point _ _ _)
+returns c = rw (c.sample_from.ensures, c.new.ensures, c.step.ensures) (sample_from_point _ _ _)

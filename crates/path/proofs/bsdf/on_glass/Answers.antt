@@ -10,6 +10,8 @@ use Rattle.path.proofs.bsdf.on_glass.Goals as goal
 pub returns-in_default : goal.returns-in_default
 unfolding rest of_bits
 returns-in_default c =
+    let mfd = c.facets-mfd.ensures in
+    let p = c.disk_point.ensures in
     let kind = rw (← c.m.view_is) at c.requires.0 in
     let known = rw (← c.m.view_is) at c.requires.1 in
     let facet = c.on_glass-facet.ensures in
@@ -18,9 +20,9 @@ returns-in_default c =
     rw (← c.m.view_is, c.lost.ensures)
     (sym (glass_lost _ _ c.args.b kind _ (left_from _ _ _ _ known _ c.left_on_glass-lambda.ensures) _ c.leading_sample-leading.ensures _
     (index_from-known _ _ _ _ known _ c.constants_at-at.ensures.0) _ (k_from-known _ _ _ _ _ known _ c.constants_at-at.ensures.1) _ c.new-uvw.ensures _
-    c.to_local-wo.ensures _ c.normal-wh.ensures _ (f_at_from _ _ _ _ _ cos _ snell _ c.fresnel_from-f.ensures) _
+    c.to_local-wo.ensures _ (rw (mfd, p.0, p.1, p.2) at c.normal-wh.ensures) _ (f_at_from _ _ _ _ _ cos _ snell _ c.fresnel_from-f.ensures) _
     (dielectric_from_snell_lem _ _ _ _ _ _ cos _ snell _ c.sample_from.ensures)
-    c.in_default.not-Direction))
+    c.in_default.not-Ok))
 
 pub seen_on_glass-seen-requires : goal.seen_on_glass-seen-requires
 seen_on_glass-seen-requires c = let facet = c.on_glass-facet.ensures in rw (facet.0) facet.1
@@ -28,14 +30,16 @@ seen_on_glass-seen-requires c = let facet = c.on_glass-facet.ensures in rw (face
 pub returns : goal.returns
 unfolding rest of_bits
 returns c =
+    let mfd = c.facets-mfd.ensures in
+    let p = c.disk_point.ensures in
     let kind = rw (← c.m.view_is) at c.requires.0 in
     let known = rw (← c.m.view_is) at c.requires.1 in
     let facet = c.on_glass-facet.ensures in
     let cos = rw (facet.2, facet.3) at c.on_glass-facet.result.is_cosine in
     let snell = c.new-snell.ensures in
-    rw (← c.m.view_is, c.sent.ensures, c.to_world.ensures, c.density_of.ensures, c.weighed.ensures, c.weights.ensures, c.glass_filter-filter.ensures, c.seen_on_glass-seen.ensures.0, c.seen_on_glass-seen.ensures.1, facet.0, facet.2, facet.3)
+    rw (← c.m.view_is, c.sent.ensures, c.to_world.ensures, c.density_of.ensures, c.weighed.ensures, c.weights.ensures, c.glass_filter-filter.ensures, c.seen_on_glass-seen.ensures.0, c.seen_on_glass-seen.ensures.1, facet.0, facet.2, facet.3, mfd)
     (sym (glass_sent _ _ c.args.b kind _ (left_from _ _ _ _ known _ c.left_on_glass-lambda.ensures) _ c.leading_sample-leading.ensures _
     (index_from-known _ _ _ _ known _ c.constants_at-at.ensures.0) _ (k_from-known _ _ _ _ _ known _ c.constants_at-at.ensures.1) _ c.new-uvw.ensures _
-    c.to_local-wo.ensures _ c.normal-wh.ensures _ (f_at_from _ _ _ _ _ cos _ snell _ c.fresnel_from-f.ensures) _
+    c.to_local-wo.ensures _ (rw (mfd, p.0, p.1, p.2) at c.normal-wh.ensures) _ (f_at_from _ _ _ _ _ cos _ snell _ c.fresnel_from-f.ensures) _
     (dielectric_from_snell_lem _ _ _ _ _ _ cos _ snell _ c.sample_from.ensures) _ _
-    c.in-Direction.is))
+    c.in-Ok.is))

@@ -11,9 +11,11 @@ returns-then-b c = rw c.lost.ensures (sym (metal_backface _ _ c.args.b c.require
 
 pub returns-in_default : goal.returns-in_default
 returns-in_default c =
+    let mfd = c.facets-mfd.ensures in
+    let p = c.disk_point.ensures in
     rw (c.lost-in_default.ensures, ← c.m.view_is)
     (sym (metal_lost _ _ c.args.b (rw (← c.m.view_is) at c.requires.0) c.if-b.false _ c.new-uvw.ensures _ c.to_local-wo.ensures _
-    c.normal-wh.ensures _ c.sample_from.ensures c.in_default.not-Direction))
+    (rw (mfd, p.0, p.1, p.2) at c.normal-wh.ensures) _ (rw mfd at c.sample_from.ensures) c.in_default.not-Ok))
 
 pub seen_on_metal-seen-requires : goal.seen_on_metal-seen-requires
 seen_on_metal-seen-requires c = let facet = c.on_metal-facet.ensures in rw (facet.0) facet.1
@@ -21,8 +23,10 @@ seen_on_metal-seen-requires c = let facet = c.on_metal-facet.ensures in rw (face
 pub returns : goal.returns
 unfolding outcome
 returns c =
+    let mfd = c.facets-mfd.ensures in
+    let p = c.disk_point.ensures in
     let spectra = c.m.inside.spectra in
     let facet = c.on_metal-facet.ensures in
-    rw (← c.m.view_is, c.to_world.ensures, c.density_of.ensures, c.weighed.ensures, c.weights.ensures, c.metal_filter-filter.ensures, c.f_on_metal-f.ensures, rw (← c.m.view_is) at c.requires.1, f_metal_from_lem spectra.eta spectra.k (medium spectra.outer), c.seen_on_metal-seen.ensures.0, c.seen_on_metal-seen.ensures.1, facet.0, facet.2, facet.3)
+    rw (← c.m.view_is, c.to_world.ensures, c.density_of.ensures, c.weighed.ensures, c.weights.ensures, c.metal_filter-filter.ensures, c.f_on_metal-f.ensures, rw (← c.m.view_is) at c.requires.1, f_metal_from_lem spectra.eta spectra.k (medium spectra.outer), c.seen_on_metal-seen.ensures.0, c.seen_on_metal-seen.ensures.1, facet.0, facet.2, facet.3, mfd)
     (sym (metal_sent _ _ c.args.b (rw (← c.m.view_is) at c.requires.0) c.if-b.false _ c.new-uvw.ensures _ c.to_local-wo.ensures _
-    c.normal-wh.ensures _ c.sample_from.ensures _ _ c.in-Direction.is))
+    (rw (mfd, p.0, p.1, p.2) at c.normal-wh.ensures) _ (rw mfd at c.sample_from.ensures) _ _ c.in-Ok.is))
