@@ -12,7 +12,7 @@ use numbers::vec2::Vec2;
 use numbers::vec3::Vec3;
 use optics::bxdf;
 use optics::bxdf::{conductor, dielectric};
-use optics::microfacet::{Ggx, Surface};
+use optics::microfacet::{DiskPoint, Ggx, OpticalConstants, Surface};
 use rulvimba::records::DirectionResult;
 use rulvimba::surfaces::SurfaceRecord;
 
@@ -41,7 +41,7 @@ pub extern "C" fn optics_conductor_sample(
     ensures { result ≡ scattered_result (conductor_sample a wo disk c s) }
 {
     let mfd = Ggx { roughness: a };
-    ScatteredResult::from(conductor::sample(wo, mfd, disk, c, s))
+    ScatteredResult::from(conductor::sample(wo, mfd, DiskPoint { disk, c, s }))
 }
 
 #[unsafe(no_mangle)]
@@ -58,7 +58,8 @@ pub extern "C" fn optics_dielectric_sample(
     ensures { result ≡ scattered_result (dielectric_sample a eta k wo u disk c s) }
 {
     let mfd = Ggx { roughness: a };
-    ScatteredResult::from(dielectric::sample(wo, mfd, eta, k, u, disk, c, s))
+    let at = OpticalConstants { eta, k };
+    ScatteredResult::from(dielectric::sample(wo, mfd, at, u, DiskPoint { disk, c, s }))
 }
 
 #[unsafe(no_mangle)]
@@ -81,7 +82,7 @@ pub extern "C" fn optics_dielectric_pdf(
     ensures { result ≡ dielectric_pdf a eta k reflection wo wi }
 {
     let mfd = Ggx { roughness: a };
-    dielectric::pdf(wo, wi, reflection, mfd, eta, k)
+    dielectric::pdf(wo, wi, reflection, mfd, OpticalConstants { eta, k })
 }
 
 #[unsafe(no_mangle)]
@@ -95,6 +96,7 @@ pub extern "C" fn optics_pdf(
 ) -> f64
     ensures { result ≡ pdf_of (surface_of surface).kind (surface_of surface).roughness eta k reflection wo wi }
 {
-    let Surface { kind, roughness } = Surface::from(surface);
-    bxdf::pdf(kind, Ggx { roughness }, wo, wi, reflection, eta, k)
+    let surface = Surface::from(surface);
+    let at = OpticalConstants { eta, k };
+    bxdf::pdf(surface.kind, surface.facets(), wo, wi, reflection, at)
 }

@@ -10,7 +10,7 @@ use numbers::vec2::Vec2;
 use numbers::vec3::Vec3;
 use optics::color::Color;
 use optics::microfacet;
-use optics::microfacet::{Ggx, Kind, Known, Spectra};
+use optics::microfacet::{DiskPoint, Ggx, Kind, Known, Spectra};
 
 // Whether eta counts as constant, on glass.
 #[tactic(auto, unfolding(optics::specs::Surface::constant_eta, optics::specs::Known::known_on_glass))]
@@ -33,7 +33,7 @@ pub extern "C" fn optics_eta_at(eta: &[f64], wl: f64) -> f64
 pub extern "C" fn optics_k_at(eta: &[f64], k: &[f64], wl: f64) -> f64
     ensures { result ≡ k_at eta.now k.now wl }
 {
-    microfacet::k_at(&Spectra::new(eta, k, &[]), wl)
+    microfacet::k_at(&DenseSpectrum::new(eta), &DenseSpectrum::new(k), wl)
 }
 
 // The index at one wavelength, on a kind by its code.
@@ -127,7 +127,7 @@ pub extern "C" fn optics_sample_normal(a: Vec2, wo: Vec3, disk: f64, c: f64, s: 
     ensures { result ≡ sample_normal a wo disk c s }
 {
     let facets = Ggx { roughness: a };
-    facets.sample_normal(wo, disk, c, s)
+    facets.sample_normal(wo, DiskPoint { disk, c, s })
 }
 
 #[unsafe(no_mangle)]

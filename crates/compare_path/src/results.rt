@@ -8,7 +8,7 @@ ghost use Rattle.compare_path.specs.Results.{bool_result, onb_result, scattered_
 use numbers::onb::Onb;
 use numbers::refusal::Refusal;
 use numbers::vec3::Vec3;
-use optics::bxdf::Sampled;
+use optics::bxdf::{NoDirection, Sample, Sampled};
 use rulvimba::records::{Case, number_and};
 
 #[repr(C)]
@@ -66,9 +66,9 @@ impl From<Sampled> for ScatteredResult {
     #[tactic(auto, unfolding(crate::specs::Results::scattered_result, optics::specs::Bxdf::sampled))]
     fn from(s: Sampled) -> ScatteredResult {
         let (case, reflection, direction) = match s {
-            Sampled::Direction { wi, reflection } => (Case::Direction, reflection, wi),
-            Sampled::None => (Case::None, false, Vec3::ZERO),
-            Sampled::Total => (Case::Total, false, Vec3::ZERO),
+            Ok(Sample { wi, reflection }) => (Case::Direction, reflection, wi),
+            Err(NoDirection::WrongSide) => (Case::None, false, Vec3::ZERO),
+            Err(NoDirection::Total) => (Case::Total, false, Vec3::ZERO),
         };
         ScatteredResult {
             outcome: case as u64,

@@ -21,7 +21,7 @@ use optics::check::{
     check_surface,
 };
 use optics::color::Color;
-use optics::microfacet::{Ggx, Kind, Microsurface, Spectra, Surface};
+use optics::microfacet::{DiskPoint, Kind, Microsurface, Spectra, Surface};
 use optics::{bxdf, microfacet};
 
 // A density that is handed out is finite.
@@ -31,15 +31,6 @@ fn finite_only(density: f64) -> Result<f64, Refusal>
 {
     refuse(Refusal::NotFinite, float::is_finite(density))?;
     Ok(density)
-}
-
-// The facets of a surface.
-fn facets(m: &Microsurface<'_>) -> Ggx
-    ensures { result.roughness ≡ m.now.roughness }
-{
-    Ggx {
-        roughness: m.surface.roughness,
-    }
 }
 
 // ---- making a surface
@@ -63,7 +54,7 @@ pub fn is_delta(m: &Microsurface<'_>) -> Result<bool, Refusal>
     ensures { answer result ≡ Counter.is_delta m.now }
 {
     check_surface(m)?;
-    Ok(facets(m).is_delta())
+    Ok(m.surface.facets().is_delta())
 }
 
 #[tactic(auto, unfolding(crate::specs::Counter::lambda))]
@@ -72,7 +63,7 @@ pub fn lambda(m: &Microsurface<'_>, w: Vec3) -> Result<f64, Refusal>
 {
     check_surface(m)?;
     check_direction(w)?;
-    Ok(facets(m).lambda(w))
+    Ok(m.surface.facets().lambda(w))
 }
 
 #[tactic(auto, unfolding(crate::specs::Counter::chi_pass))]
@@ -92,7 +83,7 @@ pub fn g1(m: &Microsurface<'_>, wo: Vec3, wh: Vec3) -> Result<f64, Refusal>
     check_surface(m)?;
     check_direction(wo)?;
     check_direction(wh)?;
-    Ok(facets(m).g1(wo, wh))
+    Ok(m.surface.facets().g1(wo, wh))
 }
 
 #[tactic(auto, unfolding(crate::specs::Counter::g))]
@@ -103,7 +94,7 @@ pub fn g(m: &Microsurface<'_>, wo: Vec3, wi: Vec3, wh: Vec3) -> Result<f64, Refu
     check_direction(wo)?;
     check_direction(wi)?;
     check_direction(wh)?;
-    Ok(facets(m).g(wo, wi, wh))
+    Ok(m.surface.facets().g(wo, wi, wh))
 }
 
 #[tactic(auto, unfolding(crate::specs::Counter::d))]
@@ -112,7 +103,7 @@ pub fn d(m: &Microsurface<'_>, wh: Vec3) -> Result<f64, Refusal>
 {
     check_surface(m)?;
     check_direction(wh)?;
-    Ok(facets(m).d(wh))
+    Ok(m.surface.facets().d(wh))
 }
 
 // Any floats: it refuses only for its surface.
@@ -126,11 +117,11 @@ pub fn disney_diffuse(
     ensures { answer result ≡ Counter.disney_diffuse m.now cos_theta_wo cos_theta_wi cos_theta_wh }
 {
     check_surface(m)?;
-    Ok(facets(m).disney_diffuse(cos_theta_wo, cos_theta_wi, cos_theta_wh))
+    Ok(m.surface.facets().disney_diffuse(cos_theta_wo, cos_theta_wi, cos_theta_wh))
 }
 
 // ---- Fresnel
-#[tactic(auto, unfolding(crate::specs::Counter::f_at, optics::specs::Surface::index_at))]
+#[tactic(auto, unfolding(crate::specs::Counter::f_at, optics::specs::Surface::index_at, optics::specs::Fresnel::f_at))]
 pub fn f_at(m: &Microsurface<'_>, wo: Vec3, wh: Vec3, lambda: f64) -> Result<f64, Refusal>
     ensures { answer result ≡ Counter.f_at m.now wo wh lambda }
 {
@@ -139,7 +130,7 @@ pub fn f_at(m: &Microsurface<'_>, wo: Vec3, wh: Vec3, lambda: f64) -> Result<f64
     check_direction(wh)?;
     check_lookup(lambda)?;
     let at = microfacet::optical_constants(m.surface.kind, &m.spectra, lambda);
-    Ok(microfacet::f_at(wo, wh, at.eta, at.k))
+    Ok(at.fresnel(wo.dot(wh)))
 }
 
 #[tactic(auto, unfolding(crate::specs::Counter::f))]
@@ -155,20 +146,14 @@ pub fn f(m: &Microsurface<'_>, wo: Vec3, wh: Vec3, lambda: Color) -> Result<Colo
 
 // ---- sampler, mirror, bend
 #[tactic(auto, unfolding(crate::specs::Counter::sample_normal))]
-pub fn sample_normal(
-    m: &Microsurface<'_>,
-    wo: Vec3,
-    disk: f64,
-    c: f64,
-    s: f64,
-) -> Result<Vec3, Refusal>
-    ensures { answer result ≡ Counter.sample_normal m.now wo disk c s }
+pub fn sample_normal(m: &Microsurface<'_>, wo: Vec3, p: DiskPoint) -> Result<Vec3, Refusal>
+    ensures { answer result ≡ Counter.sample_normal m.now wo p.disk p.c p.s }
 {
     check_surface(m)?;
     check_direction(wo)?;
-    check_random(disk)?;
-    check_circle_pair(c, s)?;
-    Ok(facets(m).sample_normal(wo, disk, c, s))
+    check_random(p.disk)?;
+    check_circle_pair(p.c, p.s)?;
+    Ok(m.surface.facets().sample_normal(wo, p))
 }
 
 #[tactic(auto, unfolding(crate::specs::Counter::reflect))]
@@ -208,5 +193,6 @@ pub fn pdf(
     check_wavelength(lambda)?;
     let kind = m.surface.kind;
     let at = microfacet::optical_constants(kind, &m.spectra, lambda);
-    finite_only(bxdf::pdf(kind, facets(m), wo, wi, reflection, at.eta, at.k))
+    let mfd = m.surface.facets();
+    finite_only(bxdf::pdf(kind, mfd, wo, wi, reflection, at))
 }

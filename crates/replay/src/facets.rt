@@ -26,10 +26,10 @@ pub fn replay(case: &mut Case<'_>) -> bool {
         908 => case.holds(mfd.g1(v, u)),
         909 => case.holds(mfd.g_over_g1(v, u, wh)),
         910 => case.holds(mfd.sample_normal_pdf(v, u)),
-        911 => case.holds(mfd.sample_normal(v, u.x, u.y, u.z)),
-        923 => case.holds(conductor::sample(v, mfd, u.x, u.y, u.z)),
+        911 => case.holds(mfd.sample_normal(v, w.disk_point(5))),
+        923 => case.holds(conductor::sample(v, mfd, w.disk_point(5))),
         925 => case.holds(conductor::pdf(v, u, mfd)),
-        926 => case.holds(dielectric::pdf(v, u, w.is_true(8), mfd, wh.y, wh.z)),
+        926 => case.holds(dielectric::pdf(v, u, w.is_true(8), mfd, w.constants(9))),
         _ => at_facet(case),
     }
 }
@@ -55,13 +55,11 @@ fn at_facet(case: &mut Case<'_>) -> bool {
 
 fn glass_sample(case: &mut Case<'_>) -> bool {
     let w = case.input;
-    let eta = w.float(2);
-    let k = w.float(3);
+    let mfd = w.facets(0);
+    let at = w.constants(2);
     let wo = w.vec3(4);
     let u = w.float(7);
-    let disk = w.vec3(8);
-    let mfd = w.facets(0);
-    case.holds(dielectric::sample(wo, mfd, eta, k, u, disk.x, disk.y, disk.z))
+    case.holds(dielectric::sample(wo, mfd, at, u, w.disk_point(8)))
 }
 
 // The density of either kind.
@@ -72,6 +70,6 @@ fn pdf(case: &mut Case<'_>) -> bool {
     let wo = w.vec3(3);
     let wi = w.vec3(6);
     let reflection = w.is_true(9);
-    let (eta, k) = (w.float(10), w.float(11));
-    case.holds(bxdf::pdf(kind, mfd, wo, wi, reflection, eta, k))
+    let at = w.constants(10);
+    case.holds(bxdf::pdf(kind, mfd, wo, wi, reflection, at))
 }

@@ -23,7 +23,7 @@ pub fn replay(case: &mut Case<'_>, spectra: Spectra<'_>) -> bool {
         958 => case.holds(counter::f_at(&m, v, u, w.float(9))),
         959 => case.holds(counter::f(&m, v, u, w.color(9))),
         // the sampler has its random numbers where others have the vector u
-        960 => case.holds(counter::sample_normal(&m, v, u.x, u.y, u.z)),
+        960 => case.holds(counter::sample_normal(&m, v, w.disk_point(6))),
         961 => case.holds(counter::pdf(&m, v, u, w.is_true(9), w.float(10))),
         _ => apart(case, &m.spectra),
     }
@@ -37,7 +37,7 @@ fn apart(case: &mut Case<'_>, spectra: &Spectra<'_>) -> bool {
     match case.number {
         931 => case.holds(Known::on_glass(spectra).eta_constant),
         932 => case.holds(microfacet::eta_at(&spectra.eta, v.x)),
-        933 => case.holds(microfacet::k_at(spectra, v.x)),
+        933 => case.holds(microfacet::k_at(&spectra.eta, &spectra.k, v.x)),
         934 => case.holds(microfacet::f(w.kind(0), spectra, v, u, w.color(9))),
         935 => case.holds(microfacet::optical_constants(w.kind(0), spectra, v.x).eta),
         962 => case.holds(counter::make_surface(w.kind(0), w.float(1), spectra)),

@@ -7,9 +7,9 @@ use numbers::onb::Onb;
 use numbers::refusal::Refusal;
 use numbers::vec2::Vec2;
 use numbers::vec3::Vec3;
-use optics::bxdf::{Refracted, Sampled};
+use optics::bxdf::{NoDirection, Refracted, Sample, Sampled};
 use optics::color::Color;
-use optics::microfacet::{Ggx, Kind, Surface};
+use optics::microfacet::{DiskPoint, Ggx, Kind, OpticalConstants, Surface};
 use path::plain::{BounceResult, DensityRecord, SharesRecord};
 use path::records::Path;
 use std::fs::File;
@@ -80,6 +80,25 @@ impl Input {
     {
         Ggx {
             roughness: self.vec2(i),
+        }
+    }
+
+    pub fn constants(&self, i: usize) -> OpticalConstants
+        requires { i + 2 ≤ 30 }
+    {
+        OpticalConstants {
+            eta: self.float(i),
+            k: self.float(i + 1),
+        }
+    }
+
+    pub fn disk_point(&self, i: usize) -> DiskPoint
+        requires { i + 3 ≤ 30 }
+    {
+        DiskPoint {
+            disk: self.float(i),
+            c: self.float(i + 1),
+            s: self.float(i + 2),
         }
     }
 
@@ -182,17 +201,16 @@ impl<T: Value> Words for Result<T, Refusal> {
 impl Words for Refracted {
     fn same(self, file: &mut File) -> bool {
         match self {
-            Refracted::Direction(wi) => 1u64.same(file) & wi.same(file),
-            Refracted::None => 2u64.same(file) & are_zeros(file, 3),
-            Refracted::Total => 3u64.same(file) & are_zeros(file, 3),
+            Ok(wi) => 1u64.same(file) & wi.same(file),
+            Err(NoDirection::WrongSide) => 2u64.same(file) & are_zeros(file, 3),
+            Err(NoDirection::Total) => 3u64.same(file) & are_zeros(file, 3),
         }
     }
 }
 
 impl Words for Option<Vec3> {
     fn same(self, file: &mut File) -> bool {
-        self.map_or(Refracted::None, |wi| Refracted::Direction(wi))
-            .same(file)
+        self.ok_or(NoDirection::WrongSide).same(file)
     }
 }
 
@@ -200,11 +218,11 @@ impl Words for Option<Vec3> {
 impl Words for Sampled {
     fn same(self, file: &mut File) -> bool {
         match self {
-            Sampled::Direction { wi, reflection } => {
+            Ok(Sample { wi, reflection }) => {
                 1u64.same(file) & reflection.same(file) & wi.same(file)
             }
-            Sampled::None => 2u64.same(file) & are_zeros(file, 4),
-            Sampled::Total => 3u64.same(file) & are_zeros(file, 4),
+            Err(NoDirection::WrongSide) => 2u64.same(file) & are_zeros(file, 4),
+            Err(NoDirection::Total) => 3u64.same(file) & are_zeros(file, 4),
         }
     }
 }

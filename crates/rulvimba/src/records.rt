@@ -8,7 +8,7 @@ ghost use Rattle.rulvimba.specs.Results.{check_number, number_of, value_or, floa
 
 use numbers::refusal::{Check, Refusal};
 use numbers::vec3::Vec3;
-use optics::bxdf::Refracted;
+use optics::bxdf::{NoDirection, Refracted};
 use optics::color::Color;
 
 // By hand: a record for each type of value, since no generic struct crosses to C; what they share is `number_and`.
@@ -127,16 +127,16 @@ impl From<Result<Refracted, Refusal>> for DirectionResult {
                 number: why.number(),
                 ..NO_DIRECTION
             },
-            Ok(Refracted::Direction(direction)) => DirectionResult {
+            Ok(Ok(direction)) => DirectionResult {
                 outcome: Case::Direction as u64,
                 direction,
                 ..NO_DIRECTION
             },
-            Ok(Refracted::None) => DirectionResult {
+            Ok(Err(NoDirection::WrongSide)) => DirectionResult {
                 outcome: Case::None as u64,
                 ..NO_DIRECTION
             },
-            Ok(Refracted::Total) => DirectionResult {
+            Ok(Err(NoDirection::Total)) => DirectionResult {
                 outcome: Case::Total as u64,
                 ..NO_DIRECTION
             },
@@ -149,10 +149,7 @@ impl From<Result<Refracted, Refusal>> for DirectionResult {
 fn as_bend(wi: Option<Vec3>) -> Refracted
     ensures { refracted result ≡ reflected wi }
 {
-    match wi {
-        Some(wi) => Refracted::Direction(wi),
-        None => Refracted::None,
-    }
+    wi.ok_or(NoDirection::WrongSide)
 }
 
 impl From<Result<Option<Vec3>, Refusal>> for DirectionResult {

@@ -10,6 +10,7 @@ use crate::surfaces::{SurfaceRecord, lent};
 use numbers::dense_spectrum::DenseSpectrum;
 use numbers::vec3::Vec3;
 use optics::color::Color;
+use optics::microfacet::DiskPoint;
 
 pub fn rulvimba_lookup(values: &[f64], lambda: f64) -> FloatResult
     ensures { result ≡ float_result (lookup values.now lambda) }
@@ -111,7 +112,11 @@ pub fn rulvimba_sample_normal(
 ) -> Vec3Result
     ensures { result ≡ vec3_result (Counter.sample_normal (surface_with surface eta.now k.now outer.now) wo disk c s) }
 {
-    Vec3Result::from(counter::sample_normal(&lent(surface, eta, k, outer), wo, disk, c, s))
+    Vec3Result::from(counter::sample_normal(
+        &lent(surface, eta, k, outer),
+        wo,
+        DiskPoint { disk, c, s },
+    ))
 }
 
 pub fn rulvimba_reflect(wo: Vec3, n: Vec3) -> DirectionResult
