@@ -1,2 +1,7 @@
 -- What the contracts of the crate cite: definitions only.
+pub mod Answers
+pub mod Digits
+pub mod Faults
+pub mod Line
 pub mod Output
+pub mod Words

@@ -1,4 +1,7 @@
 // What is wrong with a line of a job, in words.
+ghost use Rattle.std.specs.Prelude.{Some};
+ghost use Rattle.text.specs.Faults.{indices_text, wrong_text, fault_text};
+
 use std::fmt;
 
 // Whose index a word is, and how many there are.
@@ -33,6 +36,8 @@ pub struct Fault {
 }
 
 impl fmt::Display for Indices {
+    ghost output = { λ of. Some (indices_text of) };
+
     fn fmt<W: fmt::Write>(&self, f: &mut fmt::Formatter<W>) -> fmt::Result {
         let whose = self.whose;
         let last = self.count.saturating_sub(1);
@@ -41,6 +46,8 @@ impl fmt::Display for Indices {
 }
 
 impl fmt::Display for Wrong {
+    ghost output = { λ why. Some (wrong_text why) };
+
     fn fmt<W: fmt::Write>(&self, f: &mut fmt::Formatter<W>) -> fmt::Result {
         match self {
             Wrong::Command => f.write_str("unknown command"),
@@ -62,6 +69,8 @@ impl fmt::Display for Wrong {
 }
 
 impl fmt::Display for Fault {
+    ghost output = { λ f. Some (fault_text f) };
+
     fn fmt<W: fmt::Write>(&self, f: &mut fmt::Formatter<W>) -> fmt::Result {
         let word = self.word;
         let wrong = self.wrong;

@@ -1,6 +1,7 @@
 // Text put into a buffer that the caller lends. What finds no room is left out.
-ghost use Rattle.std.specs.Prelude.{◌≡◌, ◌+◌, ◌≤◌, [], length};
-ghost use Rattle.text.specs.Output.{put};
+ghost use Rattle.std.specs.Prelude.{◌≡◌, ◌+◌, ◌<◌, ◌≤◌, [], ◌++◌, length, decimal, IsOk, OnOk};
+ghost use Rattle.text.specs.Digits.{glyph, hex_text};
+ghost use Rattle.text.specs.Output.{put, number_text, numbers_text};
 
 use crate::patterns;
 use std::fmt;
@@ -23,7 +24,10 @@ impl<'a> Model for Output<'a> {
     ghost view = { λ o. record { written = take o.used o.bytes.now; room = length o.bytes.now - o.used } };
 }
 
-fn glyph(d: u8) -> u8 {
+// The glyph of a hexadecimal digit.
+fn glyph(d: u8) -> u8
+    ensures { d < 16 → result ≡ glyph d }
+{
     match d {
         0..=9 => b'0' + d,
         _ => b'a' - 10 + (d & 15),
@@ -31,11 +35,14 @@ fn glyph(d: u8) -> u8 {
 }
 
 // The 16 hexadecimal digits of some bits. By hand: with `{:016x}` a job of bounces takes a tenth more time.
-fn hex16(bits: u64) -> [u8; 16] {
+#[tactic(auto, unfolding(crate::specs::Digits::hex_text))]
+fn hex16(bits: u64) -> [u8; 16]
+    ensures { result ≡ hex_text bits }
+{
     let mut digits = [0; 16];
     let mut rest = bits;
-    for digit in digits.iter_mut().rev() {
-        *digit = glyph((rest & 15) as u8);
+    for i in (0..digits.len()).rev() {
+        digits[i] = glyph((rest & 15) as u8);
         rest >>= 4;
     }
     digits
@@ -72,6 +79,7 @@ impl<'a> Output<'a> {
         self.used = 0;
     }
 
+    // Puts a text behind the one so far.
     pub fn text(&mut self, text: &[u8])
         ensures { self.new ≡ put self.old text.now }
     {
@@ -81,9 +89,16 @@ impl<'a> Output<'a> {
         self.used = end;
     }
 
-    // The decimal digits of a value.
+    // The decimal digits of a value. std promises them where its writing succeeds, but not that it succeeds
+    // wherever each `write_str` does: so of a failure, which never comes, nothing is said.
+    fn write_decimal(&mut self, value: u64) -> fmt::Result
+        ensures { OnOk result (self.new ≡ put self.old (decimal value)) }
+    {
+        fmt::Write::write(self, value)
+    }
+
     pub fn decimal(&mut self, value: u64) {
-        let _ = fmt::Write::write(self, value);
+        let _ = self.write_decimal(value);
     }
 
     // A text and a decimal behind it.
@@ -93,26 +108,40 @@ impl<'a> Output<'a> {
     }
 
     // A blank and the number.
-    pub fn number(&mut self, x: f64) {
+    #[tactic(auto, using(crate::proofs::output::Put::put_behind), unfolding(crate::specs::Output::number_text))]
+    pub fn number(&mut self, x: f64)
+        ensures { self.new ≡ put self.old (number_text x) }
+    {
         self.text(b" ");
         self.text(&hex16(patterns::bits(x)));
     }
 
-    pub fn numbers(&mut self, values: &[f64]) {
+    #[tactic(auto, using(crate::proofs::output::Put::one_more, crate::proofs::output::Put::put_nothing))]
+    pub fn numbers(&mut self, values: &[f64])
+        ensures { self.new ≡ put self.old (numbers_text values.now) }
+    {
         for x in values {
             self.number(*x);
         }
     }
 
     // A text and numbers behind it.
-    pub fn labelled_numbers(&mut self, label: &[u8], values: &[f64]) {
+    #[tactic(auto, using(crate::proofs::output::Put::put_behind))]
+    pub fn labelled_numbers(&mut self, label: &[u8], values: &[f64])
+        ensures { self.new ≡ put self.old (label.now ++ numbers_text values.now) }
+    {
         self.text(label);
         self.numbers(values);
     }
 }
 
 impl<'a> fmt::Write for Output<'a> {
-    fn write_str(&mut self, s: &str) -> fmt::Result {
+    ghost write_str_gives = { λ o s n. n ≡ put o s };
+
+    fn write_str(&mut self, s: &str) -> fmt::Result
+        ensures ok { IsOk result }
+        ensures text { self.new ≡ put self.old s.now }
+    {
         self.text(s.as_bytes());
         Ok(())
     }

@@ -1,0 +1,3 @@
+-- Laws of digits.
+pub mod Glyphs
+pub mod Values

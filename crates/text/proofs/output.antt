@@ -1,0 +1,2 @@
+-- Laws of an output.
+pub mod Put

@@ -1,0 +1,2 @@
+-- Laws of bit patterns.
+pub mod OneNan
