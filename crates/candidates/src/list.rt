@@ -1,5 +1,5 @@
 // The present candidates, greatest density first (document 02, ii): a count, and 64 places for their ids
-// and as many for their densities, lent by the caller. Refused, a call leaves them as they were.
+// and as many for their densities, lent by the caller. A refused call leaves them as they were.
 ghost use Rattle.std.specs.Prelude.{◌≡◌, min, length};
 ghost use Rattle.std.specs.List.{position, position_or_len};
 ghost use Rattle.numbers.specs.Refusal.{verdict};

@@ -1,4 +1,5 @@
-// Rust's methods of `f64` that the model uses, with document 01's reading of `powi`: std's where it promises this and is as fast.
+// Rust's methods of `f64` that the model uses, with document 01's reading of `powi`. Each is std's, where std promises the
+// definition and is as fast, and else by hand.
 ghost use Rattle.std.specs.Prelude.{◌≡◌};
 ghost use Rattle.floats.specs.Float.{max, min, clamp, abs, sign_bit, signum, is_infinite, is_finite, powi2, powi5, within};
 ghost use Rattle.std.specs.Float.{nan};

@@ -142,8 +142,8 @@ pub fn by_digits(x: f64) -> f64
 
 // ---- the processor's root
 
-// IEEE 754's square root, which is one operation of the processor. Its definition is another one; `by_processor` shows
-// that the two are the same.
+// IEEE 754's square root, which is one operation of the processor. specs/ defines the root otherwise; the law
+// `by_processor` shows that the two agree.
 pub fn sqrt(x: f64) -> f64
     ensures { result ≡ sqrt x }
 {

@@ -102,7 +102,7 @@ pub fn same_hemisphere(v: Vec3, u: Vec3) -> Result<bool, Refusal>
     Ok(spherical_utils::same_hemisphere(v, u))
 }
 
-// The angles. By hand: they differ in the function that each calls; one over closures would hide it.
+// The angles. By hand: each is its check and its function, and one over closures would take as many lines.
 pub fn cos_phi(w: Vec3) -> Result<f64, Refusal>
     ensures { answer result ≡ of_direction cos_phi w }
 {

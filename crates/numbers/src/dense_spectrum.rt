@@ -62,16 +62,14 @@ impl<'a> DenseSpectrum<'a> {
         DenseSpectrum::STEP
     }
 
-    // Are we a constant spectrum?
+    // Are all entries equal?
     pub fn is_constant(&self) -> bool
         ensures { result ≡ is_constant self.now }
     {
         let first = self.entry(0);
         // Where the last entry differs from the first, as it mostly does in a spectrum that varies, no pass is needed.
-        if let Some(last) = self.values.last() {
-            if first != *last {
-                return false;
-            }
+        if self.values.last().is_some_and(|last| first != *last) {
+            return false;
         }
         self.every(|value| first == value)
     }

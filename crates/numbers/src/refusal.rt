@@ -25,7 +25,8 @@ pub enum Refusal {
 pub type Check = Result<(), Refusal>;
 
 impl Refusal {
-    // The number of the refusal. By hand: `why.number()` says what it is, which `u64::from(why)` would not.
+    // The number of the refusal. By hand: the definitions have this name too, and a `From` beside it would say the same
+    // twice.
     #[tactic(auto, unfolding(crate::specs::Refusal::number))]
     pub fn number(self) -> u64
         ensures { result ≡ number self }

@@ -1,6 +1,6 @@
 // Vectors of two floats: lumo's src/math/vec2.rs. What an operator gives is a definition by its name for two
-// vectors, `add_float` for a vector and a float, and `float_add` for a float and a vector. Apart from Vec3, with
-// no type for any number of parts: C's and lumo's records have fields by name.
+// vectors, `add_float` for a vector and a float, and `float_add` for a float and a vector. Vec2 and Vec3 are two types, and
+// not one over the number of parts: C's and lumo's records have fields by name.
 ghost use Rattle.std.specs.Prelude.{◌≡◌};
 ghost use Rattle.numbers.specs.Vec2.{vec2, splat, extend, dot, abs, min, max, negate, add, sub, mul, div, add_float, sub_float, mul_float, div_float, float_add, float_sub, float_mul, float_div};
 

@@ -210,7 +210,7 @@ impl Neg for Vec3 {
     }
 }
 
-// By hand: std's traits are for one operator and one type of operand each.
+// By hand, part by part as lumo's macros write them: std's traits are for one operator and one type of operand each.
 impl Add for Vec3 {
     type Output = Vec3;
 

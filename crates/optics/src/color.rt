@@ -12,6 +12,20 @@ pub struct Color {
 }
 
 impl Color {
+    pub const ZERO: Color = Color {
+        s0: 0.0,
+        s1: 0.0,
+        s2: 0.0,
+        s3: 0.0,
+    };
+
+    pub const ONE: Color = Color {
+        s0: 1.0,
+        s1: 1.0,
+        s2: 1.0,
+        s3: 1.0,
+    };
+
     // `f` of each sample.
     pub fn map<F: Fn(f64) -> f64>(self, f: F) -> Color
         requires { F.IsAlwaysCallable f }

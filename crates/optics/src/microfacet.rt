@@ -24,7 +24,7 @@ use numbers::vec3::Vec3;
 use numbers::{EPSILON, spherical_utils};
 use std::marker::Model;
 
-pub const PI: f64 = 3.141592653589793;
+pub const PI: f64 = std::f64::consts::PI;
 
 // Microfacet mirror (lumo's `MfConductor`) or microfacet glass (`MfDielectric`). The number beside each is its code,
 // wherever a kind is a number: in C, in a file.

@@ -13,8 +13,8 @@ use path::bsdf;
 use path::plain::BounceResult;
 use path::records::{Bounce, Bounced, Path};
 
-// By hand: `path::many` reads the same eight of 27. One function for both would take a slice and ask that it has eight
-// at least, and a public function asks nothing.
+// By hand beside `path::many`, which reads its path by two of its colors out of 27 numbers: one function for both would be
+// no shorter.
 fn load(numbers: &[f64; 8]) -> Path
     ensures { result ≡ path_in numbers.now }
 {

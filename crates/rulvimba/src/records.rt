@@ -52,14 +52,7 @@ pub struct DirectionResult {
     pub direction: Vec3,
 }
 
-// What stands where there is no color, and where there is no direction.
-const NO_COLOR: Color = Color {
-    s0: 0.0,
-    s1: 0.0,
-    s2: 0.0,
-    s3: 0.0,
-};
-
+// What stands where there is no direction.
 const NO_DIRECTION: DirectionResult = DirectionResult {
     number: 0,
     outcome: Case::Refused as u64,
@@ -102,7 +95,7 @@ impl From<Result<Color, Refusal>> for ColorResult {
 
     #[tactic(auto, unfolding(crate::specs::Results::color_result))]
     fn from(a: Result<Color, Refusal>) -> ColorResult {
-        let (number, value) = number_and(a, NO_COLOR);
+        let (number, value) = number_and(a, Color::ZERO);
         ColorResult { number, value }
     }
 }

@@ -30,8 +30,8 @@ pub struct SurfaceResult {
     pub surface: SurfaceRecord,
 }
 
-// A kind that is neither metal nor glass gets a roughness that no check accepts. By hand, no error: C is answered by
-// the check of the surface, in its order.
+// A kind that is neither metal nor glass gets a roughness that no check accepts. By hand, no error: a bounce that is
+// refused answers its path too, and so works on a surface.
 impl From<SurfaceRecord> for Surface {
     ghost from_gives = { λ r s. s ≡ surface_of r };
 

@@ -4,4 +4,5 @@ pub mod Digits
 pub mod Faults
 pub mod Line
 pub mod Output
+pub mod Records
 pub mod Words

@@ -1,6 +1,6 @@
 // Text that programs read and write: the words of a line, the digits and the bit pattern of a number, what
-// is wrong with a line of a job, and answers, faults and numbers put behind the text of a buffer. Every
-// function takes any input, and none calls the model.
+// is wrong with a line of a job, answers, faults and numbers put behind the text of a buffer, and records of
+// recorded answers. Every function takes any input, and none calls the model.
 #![tactic(auto)]
 
 pub mod answers;

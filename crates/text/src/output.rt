@@ -7,7 +7,8 @@ use crate::patterns;
 use std::fmt;
 use std::marker::Model;
 
-// The first `used` bytes of a buffer are the text.
+// The first `used` bytes of a buffer are the text. By hand: the buffer is fixed memory that the caller lends, and a String
+// would allocate.
 #[derive(Drop)]
 pub struct Output<'a> {
     bytes: &'a mut [u8],
@@ -34,7 +35,8 @@ fn glyph(d: u8) -> u8
     }
 }
 
-// The 16 hexadecimal digits of some bits. By hand: with `{:016x}` a job of bounces takes a tenth more time.
+// The 16 hexadecimal digits of some bits. By hand: with `{:016x}` a job of bounces takes a tenth more time. By index: behind
+// `iter_mut().rev()` a proof knows no more of the array than its length.
 #[tactic(auto, unfolding(crate::specs::Digits::hex_text))]
 fn hex16(bits: u64) -> [u8; 16]
     ensures { result ≡ hex_text bits }

@@ -1,6 +1,8 @@
 // Records of recorded answers, a line each, in numbers of so many digits: what the programs that replay them read and
 // count alike.
-ghost use Rattle.std.specs.Prelude.{◌≡◌, ◌+◌, ◌-◌, ◌^◌, cond, min, IfSome};
+ghost use Rattle.std.specs.Prelude.{◌≡◌, IfSome, unwrap_or};
+ghost use Rattle.text.specs.Digits.{decimal, hex16};
+ghost use Rattle.text.specs.Records.{no_number, replayed};
 ghost use Rattle.std.specs.Io.KnownBytes.{Consumes};
 
 use crate::digits;
@@ -35,12 +37,16 @@ pub fn line_end<R: Read>(from: &mut R) {
 }
 
 // The value of decimal digits, no more than five.
-pub fn decimal(text: &[u8]) -> u64 {
+pub fn decimal(text: &[u8]) -> u64
+    ensures { result ≡ unwrap_or (decimal text.now) no_number }
+{
     digits::decimal(text).unwrap_or(NO_NUMBER)
 }
 
 // The value of sixteen hexadecimal digits, and 0 where they are none.
-pub fn hex16(text: &[u8]) -> u64 {
+pub fn hex16(text: &[u8]) -> u64
+    ensures { result ≡ unwrap_or (hex16 text.now) 0 }
+{
     digits::hex16(text).unwrap_or(0)
 }
 
@@ -54,8 +60,7 @@ pub struct Tally {
 impl Tally {
     // One record more, and whether what was replayed is the same.
     pub fn count(&mut self, same: bool)
-        ensures records { self.new.records ≡ min (self.old.records + 1) (2 ^ 64 - 1) }
-        ensures differences { self.new.differences ≡ cond «same» self.old.differences (min (self.old.differences + 1) (2 ^ 64 - 1)) }
+        ensures { self.new ≡ replayed self.old same }
     {
         self.records = self.records.saturating_add(1);
         if !same {
