@@ -68,8 +68,10 @@ impl<'a> DenseSpectrum<'a> {
     {
         let first = self.entry(0);
         // Where the last entry differs from the first, as it mostly does in a spectrum that varies, no pass is needed.
-        if self.values.last().is_some_and(|last| first != *last) {
-            return false;
+        if let Some(last) = self.values.last() {
+            if first != *last {
+                return false;
+            }
         }
         self.every(|value| first == value)
     }
