@@ -1,4 +1,4 @@
--- The methods of `f64` that read a bit pattern: `x != x` is the test for NaN (`nan_test`); of a value that is none the sign is the pattern's highest bit (`sign_test`), the rest of the pattern is that of the absolute value (`abs-bits`), and the sign bit with the pattern of 1.0 is `signum` (`signum-bits`).
+-- The methods of `f64` that read a bit pattern: `x != x` is the test for NaN (`nan_test`); of a value that is none the sign is the pattern's highest bit (`sign_test`), and the sign bit with the pattern of 1.0 is `signum` (`signum-bits`).
 -- A value that fits its format is given back by its pattern, so each fact is one about the value of a pattern, by its three fields.
 use Rattle.std.proofs.Common.{◌≡◌, refl, sym, ap, ◌∙◌, subst, ℕ, zero, suc, ◌+◌, ◌*◌, ◌/◌, ◌%◌, ◌≤◌, arith, Bool, true, false, not, cond, true≢false, T, leb, eqb, Float}
 use lib.Dec.{eqb_refl}
@@ -7,7 +7,7 @@ use borrow.Author.Tests.{lt-leb, leb-true, leb-false}
 use lib.Ieee.Compare.{differs_from_itself}
 use denote.Floats.{passes}
 use lib.Ieee.Bits.{is_true, of_bits-to_bits, to_bits-lt, nan_bits_is}
-use Rattle.std.specs.Float.{float_is_finite, float_is_infinite, is_sign_negative}
+use Rattle.std.specs.Float.{float_is_finite, float_is_infinite, float_with_sign, is_sign_negative}
 use Rattle.floats.specs.Float.{abs, sign_bit, signum, is_infinite, is_finite}
 
 -- ---- NaN
@@ -25,26 +25,16 @@ not_nan x e = rw (← nan_test x, e) tt
 pub is_nan_lem : (x : Float) → ne x x ≡ true → x ≡ nan
 is_nan_lem x e = differs_from_itself x (passes (ne x x) e)
 
--- ---- the sign and the absolute value of a pattern, by its fields
+-- ---- the sign of a pattern, by its fields
 odd_sign : (d : ℕ) (s : Bool) (q k l : ℕ) → sign_bit (odd d s q k l) ≡ s
 unfolding odd sign_bit
 odd_sign d s zero k l = refl
 odd_sign d s (suc q) k l = refl
 
-odd_abs : (d : ℕ) (s : Bool) (q k l : ℕ) → abs (odd d s q k l) ≡ odd d false q k l
-unfolding odd abs
-odd_abs d s zero k l = refl
-odd_abs d s (suc q) k l = refl
-
 special_sign : (b : Bool) (s : Bool) → T (not (is_nan (cond b (inf s) nan))) → sign_bit (cond b (inf s) nan) ≡ s
 unfolding sign_bit is_nan
 special_sign true s t = refl
 special_sign false s t = absurd t
-
-special_abs : (b : Bool) (s : Bool) → abs (cond b (inf s) nan) ≡ cond b (inf false) nan
-unfolding abs
-special_abs true s = refl
-special_abs false s = refl
 
 fields_sign : (s : Bool) (x t : ℕ) → T (not (is_nan (of_fields binary64 s x t))) → sign_bit (of_fields binary64 s x t) ≡ s
 unfolding of_fields
@@ -55,22 +45,6 @@ fields_sign s (suc x) t n = go (eqb (suc x) 2047) n
         → sign_bit (cond b (cond (eqb t 0) (inf s) nan) (odd 53 s (4503599627370496 + t) x 1074)) ≡ s
     go true n = special_sign (eqb t 0) s n
     go false n = odd_sign 53 s (4503599627370496 + t) x 1074
-
-fields_abs : (s : Bool) (x t : ℕ) → abs (of_fields binary64 s x t) ≡ of_fields binary64 false x t
-unfolding of_fields
-fields_abs s zero t = odd_abs 53 s t 0 1074
-fields_abs s (suc x) t = go (eqb (suc x) 2047)
-  where
-    go : (b : Bool) → abs (cond b (cond (eqb t 0) (inf s) nan) (odd 53 s (4503599627370496 + t) x 1074))
-        ≡ cond b (cond (eqb t 0) (inf false) nan) (odd 53 false (4503599627370496 + t) x 1074)
-    go true = special_abs (eqb t 0) s
-    go false = odd_abs 53 s (4503599627370496 + t) x 1074
-
-abs_keeps : (y : Float) → T (not (is_nan y)) → T (not (is_nan (abs y)))
-unfolding is_nan abs
-abs_keeps (inf s) n = tt
-abs_keeps (fin s m e) n = tt
-abs_keeps nan n = elim n [ ]
 
 signum_keeps : (y : Float) → T (not (is_nan y)) → T (not (is_nan (signum y)))
 unfolding is_nan signum
@@ -95,18 +69,6 @@ module _ (x : Float) (f : T (fits binary64 x)) where
       sym (fields_sign (leb 9223372036854775808 b) (b % 9223372036854775808 / 4503599627370496) (b % 4503599627370496)
       (subst (λ (y : Float). T (not (is_nan y))) (sym (of_bits-to_bits binary64 x f)) n))
       ∙ ap sign_bit (of_bits-to_bits binary64 x f)
-
-  pub abs-bits : of_bits binary64 (to_bits binary64 x % 9223372036854775808) ≡ abs x
-  unfolding of_bits
-  abs-bits =
-      let b = to_bits binary64 x in
-      let s : leb 9223372036854775808 (b % 9223372036854775808) ≡ false = lt-leb 9223372036854775808 (b % 9223372036854775808) (omega arith) in
-      let p : b % 9223372036854775808 % 9223372036854775808 ≡ b % 9223372036854775808 = omega arith in
-      let q : b % 9223372036854775808 % 4503599627370496 ≡ b % 4503599627370496 = omega arith in
-      rw (s, p, q) (sym (fields_abs (leb 9223372036854775808 b) (b % 9223372036854775808 / 4503599627370496) (b % 4503599627370496)) ∙ ap abs (of_bits-to_bits binary64 x f))
-
-  pub abs_not_nan : T (not (is_nan x)) → T (not (nan_bits binary64 (to_bits binary64 x % 9223372036854775808)))
-  abs_not_nan n = rw (nan_bits_is binary64 (to_bits binary64 x % 9223372036854775808), abs-bits) (abs_keeps x n)
 
   -- the pattern is a sign bit and 63 bits more
   pub sign-digit : to_bits binary64 x / 9223372036854775808 ≤ 1
@@ -135,24 +97,24 @@ infinite_is nan = refl
 infinite_is (inf s) = refl
 infinite_is (fin s m e) = refl
 
+pub abs_is : (x : Float) → float_with_sign false x ≡ abs x
+unfolding float_with_sign abs
+abs_is nan = refl
+abs_is (inf s) = refl
+abs_is (fin s m e) = refl
+
 pub sign_is : (x : Float) → is_sign_negative x ≡ sign_bit x
 unfolding is_sign_negative sign_bit
 sign_is nan = refl
 sign_is (inf s) = refl
 sign_is (fin s m e) = refl
 
--- a NaN has no sign, and is what `abs` and `signum` leave as it is
+-- a NaN has no sign, and is what `signum` leaves as it is
 pub nan_sign : (x : Float) → is_nan x ≡ true → false ≡ sign_bit x
 unfolding is_nan sign_bit
 nan_sign nan e = refl
 nan_sign (inf s) e = absurd (true≢false (sym e))
 nan_sign (fin s m i) e = absurd (true≢false (sym e))
-
-pub nan_abs : (x : Float) → is_nan x ≡ true → x ≡ abs x
-unfolding is_nan abs
-nan_abs nan e = refl
-nan_abs (inf s) e = absurd (true≢false (sym e))
-nan_abs (fin s m i) e = absurd (true≢false (sym e))
 
 pub nan_signum : (x : Float) → is_nan x ≡ true → x ≡ signum x
 unfolding is_nan signum
