@@ -78,11 +78,11 @@ fn bounce_in(numbers: &[f64; IN]) -> Bounce
     }
 }
 
-#[tactic(auto, unfolding(crate::specs::Many::numbers_out, crate::specs::Many::result_numbers))]
+#[tactic(auto, unfolding(crate::specs::Many::numbers_out, crate::specs::Many::result_numbers), using(crate::proofs::Outcome::path_carried))]
 fn numbers_out(answer: Bounced) -> [f64; OUT]
     ensures { result ≡ numbers_out (outcome answer) }
 {
-    let p = answer.path();
+    let p = answer.path;
     let r = BounceResult::from(answer);
     [
         p.lambda.s0,

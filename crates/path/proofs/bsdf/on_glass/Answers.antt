@@ -4,6 +4,7 @@ use Rattle.std.proofs.Common.{sym}
 use lib.Ieee.{of_bits}
 use Rattle.optics.specs.Bxdf.{rest}
 use Rattle.optics.proofs.SharedTerms.{f_at_from, dielectric_from_snell_lem, index_from-known, k_from-known}
+use Rattle.path.specs.Answer.{outcome}
 use Rattle.path.proofs.OnSurface.{left_from, glass_lost, glass_sent}
 use Rattle.path.proofs.bsdf.on_glass.Goals as goal
 
@@ -26,14 +27,14 @@ pub seen_on_glass-seen-requires : goal.seen_on_glass-seen-requires
 seen_on_glass-seen-requires c = let facet = c.on_glass-facet.ensures in rw (facet.0) facet.1
 
 pub returns : goal.returns
-unfolding rest of_bits
+unfolding outcome rest of_bits
 returns c =
     let kind = rw (← c.m.view_is) at c.requires.0 in
     let known = rw (← c.m.view_is) at c.requires.1 in
     let facet = c.on_glass-facet.ensures in
     let cos = rw (facet.2, facet.3) at c.on_glass-facet.result.is_cosine in
     let snell = c.new-snell.ensures in
-    rw (← c.m.view_is, c.sent.ensures, c.to_world.ensures, c.density_of.ensures, c.weighed.ensures, c.weights.ensures, c.glass_filter-filter.ensures, c.seen_on_glass-seen.ensures.0, c.seen_on_glass-seen.ensures.1, facet.0, facet.2, facet.3)
+    rw (← c.m.view_is, c.to_world.ensures, c.density_of.ensures, c.weighed.ensures, c.weights.ensures, c.glass_filter-filter.ensures, c.seen_on_glass-seen.ensures.0, c.seen_on_glass-seen.ensures.1, facet.0, facet.2, facet.3)
     (sym (glass_sent _ _ c.args.b kind _ (left_from _ _ _ _ known _ c.left_on_glass-lambda.ensures) _ c.leading_sample-leading.ensures _
     (index_from-known _ _ _ _ known _ c.constants_at-at.ensures.0) _ (k_from-known _ _ _ _ _ known _ c.constants_at-at.ensures.1) _ c.new-uvw.ensures _
     c.to_local-wo.ensures _ c.normal-wh.ensures _ (f_at_from _ _ _ _ _ cos _ snell _ c.fresnel_from-f.ensures) _
