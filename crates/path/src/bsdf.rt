@@ -28,30 +28,32 @@ use optics::microfacet::{Ggx, Known, Microsurface, Snell};
 pub fn bounce(path: Path, m: &Microsurface<'_>, b: Bounce) -> Bounced
     ensures { outcome result ≡ bounce path m.now b }
 {
-    bounce_on(&Prepared::new(m), path, b)
+    Prepared::new(m).bounce(path, b)
 }
 
-// A bounce on a surface that was prepared, so that many bounces prepare it once.
-pub(crate) fn bounce_on(m: &Prepared<'_, '_>, path: Path, b: Bounce) -> Bounced
-    ensures { outcome result ≡ bounce path m.now.surface.now b }
-{
-    match checked(m, path, b) {
-        Err(why) => Bounced {
-            path,
-            light: Err(why),
-        },
-        Ok(Found::Metal { step }) => on_metal(step, path, m.surface, b),
-        Ok(Found::Glass(known)) => on_glass(known, path, m.surface, b),
+impl Prepared<'_, '_> {
+    // A bounce on a surface that was prepared, so that many bounces prepare it once.
+    pub(crate) fn bounce(&self, path: Path, b: Bounce) -> Bounced
+        ensures { outcome result ≡ bounce path self.now.surface.now b }
+    {
+        match self.checked(path, b) {
+            Err(why) => Bounced {
+                path,
+                light: Err(why),
+            },
+            Ok(Found::Metal { step }) => on_metal(step, path, self.surface, b),
+            Ok(Found::Glass(known)) => on_glass(known, path, self.surface, b),
+        }
     }
-}
 
-// What is known of the surface, if the bounce is accepted.
-fn checked(m: &Prepared<'_, '_>, path: Path, b: Bounce) -> Result<Found, Refusal>
-    ensures { answer result ≡ (check_bounce path m.now.surface.now b ▷ given (found_on m.now.surface.now.kind m.now.surface.now.eta m.now.surface.now.outside)) }
-{
-    let found = m.found?;
-    check::check_rest(path, b)?;
-    Ok(found)
+    // What is known of the surface, if the bounce is accepted.
+    fn checked(&self, path: Path, b: Bounce) -> Result<Found, Refusal>
+        ensures { answer result ≡ (check_bounce path self.now.surface.now b ▷ given (found_on self.now.surface.now.kind self.now.surface.now.eta self.now.surface.now.outside)) }
+    {
+        let found = self.found?;
+        check::check_rest(path, b)?;
+        Ok(found)
+    }
 }
 
 // Metal reflects light, at its front alone, whatever lies outside.
@@ -94,11 +96,12 @@ fn on_glass(known: Known, path: Path, m: &Microsurface<'_>, b: Bounce) -> Bounce
     ensures { outcome result ≡ on_surface path m.now b }
 {
     // wavelengths end before anything reads them
-    let lambda = left_on_glass(known.eta_constant, path.lambda);
-    let power = path.power;
-    let left = Path { lambda, power };
+    let left = Path {
+        lambda: left_on_glass(known.eta_constant, path.lambda),
+        ..path
+    };
 
-    let leading = wavelength::leading_sample(lambda);
+    let leading = wavelength::leading_sample(left.lambda);
     let at = known.reading.constants_at(&m.spectra, leading);
 
     let uvw = Onb::new(b.normal);
@@ -123,7 +126,7 @@ fn on_glass(known: Known, path: Path, m: &Microsurface<'_>, b: Bounce) -> Bounce
     let seen = facet.seen_on_glass(at, wi, reflection);
     let filter = weight::glass_filter(reflection, b.ks, b.tf);
     Bounced {
-        path: left.weighed(weight::weights(lambda, filter, seen.q)),
+        path: left.weighed(weight::weights(left.lambda, filter, seen.q)),
         light: Ok(Light::Sent {
             reflection,
             wi: uvw.to_world(wi),

@@ -17,7 +17,7 @@ returns-in_default c =
     let cos = rw (facet.2, facet.3) at c.on_glass-facet.result.is_cosine in
     let snell = c.new-snell.ensures in
     rw (← c.m.view_is, c.lost.ensures)
-    (sym (glass_lost _ _ c.args.b kind _ (left_from _ _ _ _ known _ c.left_on_glass-lambda.ensures) _ c.leading_sample-leading.ensures _
+    (sym (glass_lost _ _ c.args.b kind _ (left_from _ _ _ _ known _ c.left_on_glass.ensures) _ c.leading_sample-leading.ensures _
     (index_from-known _ _ _ _ known _ c.constants_at-at.ensures.0) _ (k_from-known _ _ _ _ _ known _ c.constants_at-at.ensures.1) _ c.new-uvw.ensures _
     c.to_local-wo.ensures _ c.normal-wh.ensures _ (f_at_from _ _ _ _ _ cos _ snell _ c.fresnel_from-f.ensures) _
     (dielectric_from_snell_lem _ _ _ _ _ _ cos _ snell _ c.sample_from.ensures)
@@ -35,7 +35,7 @@ returns c =
     let cos = rw (facet.2, facet.3) at c.on_glass-facet.result.is_cosine in
     let snell = c.new-snell.ensures in
     rw (← c.m.view_is, c.to_world.ensures, c.density_of.ensures, c.weighed.ensures, c.weights.ensures, c.glass_filter-filter.ensures, c.seen_on_glass-seen.ensures.0, c.seen_on_glass-seen.ensures.1, facet.0, facet.2, facet.3)
-    (sym (glass_sent _ _ c.args.b kind _ (left_from _ _ _ _ known _ c.left_on_glass-lambda.ensures) _ c.leading_sample-leading.ensures _
+    (sym (glass_sent _ _ c.args.b kind _ (left_from _ _ _ _ known _ c.left_on_glass.ensures) _ c.leading_sample-leading.ensures _
     (index_from-known _ _ _ _ known _ c.constants_at-at.ensures.0) _ (k_from-known _ _ _ _ _ known _ c.constants_at-at.ensures.1) _ c.new-uvw.ensures _
     c.to_local-wo.ensures _ c.normal-wh.ensures _ (f_at_from _ _ _ _ _ cos _ snell _ c.fresnel_from-f.ensures) _
     (dielectric_from_snell_lem _ _ _ _ _ _ cos _ snell _ c.sample_from.ensures) _ _
