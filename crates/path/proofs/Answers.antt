@@ -1,6 +1,6 @@
 -- Every bounce has an answer of the contract (`answers`), and so every list of steps a run (`run_for_every`): `Demand3` speaks of each list.
 -- An accepted bounce is lost, reflected or passed. A refused one is by a number, and each check's number is that of a `Refusal`.
-use Rattle.std.proofs.Common.{◌≡◌, ℕ, Bool, true, false, List, [], ◌∷◌, refl, ap}
+use Rattle.std.proofs.Common.{◌≡◌, ℕ, Bool, true, false, List, [], ◌∷◌, Ok, Err, refl, ap}
 use Rattle.numbers.specs.Refusal.{number, Verdict, accepted, rejected, ◌then◌, refuse}
 use Rattle.numbers.specs.declared.refusal.Refusal.{Refusal}
 use Rattle.numbers.specs.declared.refusal.Refusal.TheVariants as W
@@ -15,7 +15,7 @@ use Rattle.path.specs.Path.{is_path_lambda, is_power, is_filter}
 use Rattle.path.specs.declared.records.Path.{Path}
 use Rattle.path.specs.declared.records.Bounce.{Bounce}
 use Rattle.path.specs.declared.records.Bounced.{Bounced}
-use Rattle.path.specs.declared.records.Bounced.TheVariants as B
+use Rattle.path.specs.declared.records.Light.TheVariants as L
 use Rattle.path.specs.Bounce.{check_bounce, check_rest, lambda_on, scatter, advanced}
 use Rattle.path.specs.Answer.{refusal, outcome, branch_of, worked, on_surface, answered, bounce, path_of}
 use Rattle.path.specs.Demand3.{Step, StepsF64, end, bounced, steps_of, Answered, RunForEvery}
@@ -59,14 +59,13 @@ answers p s = go (check_bounce p m b) (known p m b)
     b = s.bounce
 
     on : (s : Scattered) → (a : Bounced) × (outcome a ≡ worked s m (lambda_on m p.lambda) b (advanced p m b))
-    on (scattered wi true) = (B.Reflected _ _ _ _, refl)
-    on (scattered wi false) = (B.Passed _ _ _ _, refl)
-    on Bxdf.lost = (B.Lost _ _, refl)
-    on totally = (B.Lost _ _, refl)
+    on (scattered wi reflection) = (record { path = _; light = Ok (L.Sent reflection _ _ _) }, refl)
+    on Bxdf.lost = (record { path = _; light = Ok (L.Lost _) }, refl)
+    on totally = (record { path = _; light = Ok (L.Lost _) }, refl)
 
     go : (v : Verdict) → Known v → (a : Bounced) × (outcome a ≡ answered v p (worked (scatter m (lambda_on m p.lambda) b) m (lambda_on m p.lambda) b (advanced p m b)))
     go accepted h = on (scatter m (lambda_on m p.lambda) b)
-    go (rejected n) (why, e) = (B.Refused why p, ap (λ (n : ℕ). refusal n p) e)
+    go (rejected n) (why, e) = (record { path = p; light = Err why }, ap (λ (n : ℕ). refusal n p) e)
 
 -- ---- a run for every list of steps
 pub run_for_every : RunForEvery

@@ -1,4 +1,5 @@
 -- The laws, in the order in which they build on each other.
+pub mod Outcome
 pub mod Direction
 pub mod OnSurface
 pub mod Found

@@ -1,14 +1,14 @@
 -- What a bounce answers, with document 01's number and values for each case. Definitions only.
-use Rattle.std.specs.Prelude.{ℕ, Bool, true, false, cond, Option, Some, None, Float}
+use Rattle.std.specs.Prelude.{ℕ, Bool, true, false, cond, Option, Some, None, Result, Ok, Err, Float}
 use Rattle.floats.specs.Float.{is_finite}
 use Rattle.numbers.specs.Onb.{basis, to_world}
 use Rattle.numbers.specs.Refusal.{number, Verdict, accepted, rejected}
-use Rattle.numbers.specs.declared.vec3.Vec3.{Vec3}
+use Rattle.numbers.specs.declared.{refusal.Refusal.Refusal, vec3.Vec3.Vec3}
 use Rattle.optics.specs.Surface.{Microsurface}
 use Rattle.optics.specs.Bxdf.{Scattered, scattered, totally, rest}
 use Rattle.optics.specs.Density.{pdf}
 use Rattle.optics.specs.declared.{color.Color.Color, microfacet.Kind.Kind, microfacet.Kind.TheVariants.Metal, microfacet.Kind.TheVariants.Glass}
-pub use Rattle.path.specs.declared.records.{Shares.Shares, Bounced.Bounced}
+pub use Rattle.path.specs.declared.records.{Shares.Shares, Light.Light, Bounced.Bounced}
 use Rattle.path.specs.Path.{Path, leading}
 use Rattle.path.specs.Bounce.{Bounce, advanced, check_bounce, lambda_on, local_wo, share, scatter}
 
@@ -18,11 +18,18 @@ pub data Outcome : Type 0 where
   lost : Option Shares → Path → Outcome
   reflected passed : Vec3 → Option Float → Option Shares → Path → Outcome
 
+-- light that is sent on, by the branch that was taken
+unfoldable pub branch_of : Bool → Vec3 → Option Float → Option Shares → Path → Outcome
+branch_of true wi density shares next = reflected wi density shares next
+branch_of false wi density shares next = passed wi density shares next
+
+abbrev pub outcome_of : Path → Result Light Refusal → Outcome
+outcome_of p (Err why) = refusal (number why) p
+outcome_of p (Ok (Light.Lost shares)) = lost shares p
+outcome_of p (Ok (Light.Sent reflection wi density shares)) = branch_of reflection wi density shares p
+
 unfoldable pub outcome : Bounced → Outcome
-outcome (Bounced.Refused why p) = refusal (number why) p
-outcome (Bounced.Lost shares p) = lost shares p
-outcome (Bounced.Reflected wi density shares p) = reflected wi density shares p
-outcome (Bounced.Passed wi density shares p) = passed wi density shares p
+outcome b = outcome_of b.path b.light
 
 -- ---- what they carry
 -- the density of local wo and wi with the branch as its reflection flag, where it is finite
@@ -44,10 +51,6 @@ unfoldable pub shares : Microsurface → Color → Bounce → Option Shares
 shares m lambda b = shares_on m.kind (share m lambda b)
 
 -- ---- the answer
-unfoldable pub branch_of : Bool → Vec3 → Option Float → Option Shares → Path → Outcome
-branch_of true wi density shares next = reflected wi density shares next
-branch_of false wi density shares next = passed wi density shares next
-
 -- no direction: lost. (A bend never meets total reflection here: `NeverTotal` of Demand3.antt.)
 unfoldable pub worked : Scattered → Microsurface → Color → Bounce → Path → Outcome
 worked (scattered wi reflection) m lambda b next =

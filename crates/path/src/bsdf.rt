@@ -10,16 +10,15 @@ ghost use Rattle.optics.specs.declared.microfacet.Kind.TheVariants.{Metal, Glass
 ghost use Rattle.path.specs.Path.{path, weighed, terminate};
 ghost use Rattle.path.specs.Bounce.{check_bounce};
 ghost use Rattle.path.specs.Known.{found_on, entries};
-ghost use Rattle.path.specs.Answer.{outcome, lost, density_of, branch_of, on_surface, bounce};
+ghost use Rattle.path.specs.Answer.{outcome, lost, density_of, on_surface, bounce};
 
 use crate::facet::Facet;
 use crate::prepared::{Found, Prepared};
-use crate::records::{Bounce, Bounced, Path, Shares};
+use crate::records::{Bounce, Bounced, Light, Path, Shares};
 use crate::{check, wavelength, weight};
 use floats::float;
 use numbers::onb::Onb;
 use numbers::refusal::Refusal;
-use numbers::vec3::Vec3;
 use optics::bxdf::{Sample, conductor, dielectric};
 use optics::color::Color;
 use optics::microfacet;
@@ -29,27 +28,32 @@ use optics::microfacet::{Known, Microsurface, Snell};
 pub fn bounce(path: Path, m: &Microsurface<'_>, b: Bounce) -> Bounced
     ensures { outcome result ≡ bounce path m.now b }
 {
-    bounce_on(&Prepared::new(m), path, b)
+    Prepared::new(m).bounce(path, b)
 }
 
-// A bounce on a surface that was prepared, so that many bounces prepare it once.
-pub(crate) fn bounce_on(m: &Prepared<'_, '_>, path: Path, b: Bounce) -> Bounced
-    ensures { outcome result ≡ bounce path m.now.surface.now b }
-{
-    match checked(m, path, b) {
-        Err(why) => Bounced::Refused { why, path },
-        Ok(Found::Metal { step }) => on_metal(step, path, m.surface, b),
-        Ok(Found::Glass(known)) => on_glass(known, path, m.surface, b),
+impl Prepared<'_, '_> {
+    // A bounce on a surface that was prepared, so that many bounces prepare it once.
+    pub(crate) fn bounce(&self, path: Path, b: Bounce) -> Bounced
+        ensures { outcome result ≡ bounce path self.now.surface.now b }
+    {
+        match self.checked(path, b) {
+            Err(why) => Bounced {
+                path,
+                light: Err(why),
+            },
+            Ok(Found::Metal { step }) => on_metal(step, path, self.surface, b),
+            Ok(Found::Glass(known)) => on_glass(known, path, self.surface, b),
+        }
     }
-}
 
-// What is known of the surface, if the bounce is accepted.
-fn checked(m: &Prepared<'_, '_>, path: Path, b: Bounce) -> Result<Found, Refusal>
-    ensures { answer result ≡ (check_bounce path m.now.surface.now b ▷ given (found_on m.now.surface.now.kind m.now.surface.now.eta m.now.surface.now.outside)) }
-{
-    let found = m.found?;
-    check::check_rest(path, b)?;
-    Ok(found)
+    // What is known of the surface, if the bounce is accepted.
+    fn checked(&self, path: Path, b: Bounce) -> Result<Found, Refusal>
+        ensures { answer result ≡ (check_bounce path self.now.surface.now b ▷ given (found_on self.now.surface.now.kind self.now.surface.now.eta self.now.surface.now.outside)) }
+    {
+        let found = self.found?;
+        check::check_rest(path, b)?;
+        Ok(found)
+    }
 }
 
 // Metal reflects light, at its front alone, whatever lies outside.
@@ -74,11 +78,14 @@ fn on_metal(step: f64, path: Path, m: &Microsurface<'_>, b: Bounce) -> Bounced
     let seen = facet.seen_on_metal(wi);
     let f = microfacet::f_on_metal(step, &m.spectra, wo, wh, path.lambda);
     let filter = weight::metal_filter(b.ks, f);
-    Bounced::Reflected {
-        wi: uvw.to_world(wi),
-        density: density_of(seen.pdf),
-        shares: None,
+    Bounced {
         path: path.weighed(weight::weights(path.lambda, filter, seen.q)),
+        light: Ok(Light::Sent {
+            reflection: true,
+            wi: uvw.to_world(wi),
+            density: density_of(seen.pdf),
+            shares: None,
+        }),
     }
 }
 
@@ -88,11 +95,12 @@ fn on_glass(known: Known, path: Path, m: &Microsurface<'_>, b: Bounce) -> Bounce
     ensures { outcome result ≡ on_surface path m.now b }
 {
     // wavelengths end before anything reads them
-    let lambda = left_on_glass(known.eta_constant, path.lambda);
-    let power = path.power;
-    let left = Path { lambda, power };
+    let left = Path {
+        lambda: left_on_glass(known.eta_constant, path.lambda),
+        ..path
+    };
 
-    let leading = wavelength::leading_sample(lambda);
+    let leading = wavelength::leading_sample(left.lambda);
     let at = known.reading.constants_at(&m.spectra, leading);
 
     let uvw = Onb::new(b.normal);
@@ -114,40 +122,14 @@ fn on_glass(known: Known, path: Path, m: &Microsurface<'_>, b: Bounce) -> Bounce
 
     let seen = facet.seen_on_glass(at, wi, reflection);
     let filter = weight::glass_filter(reflection, b.ks, b.tf);
-    sent(
-        reflection,
-        uvw.to_world(wi),
-        density_of(seen.pdf),
-        shares,
-        left.weighed(weight::weights(lambda, filter, seen.q)),
-    )
-}
-
-// Light that glass sends on, by the branch that was taken.
-#[tactic(auto, unfolding(crate::specs::Answer::branch_of, crate::specs::Answer::outcome))]
-fn sent(
-    reflection: bool,
-    wi: Vec3,
-    density: Option<f64>,
-    shares: Option<Shares>,
-    path: Path,
-) -> Bounced
-    ensures { outcome result ≡ branch_of reflection wi density shares path }
-{
-    if reflection {
-        Bounced::Reflected {
-            wi,
-            density,
+    Bounced {
+        path: left.weighed(weight::weights(left.lambda, filter, seen.q)),
+        light: Ok(Light::Sent {
+            reflection,
+            wi: uvw.to_world(wi),
+            density: density_of(seen.pdf),
             shares,
-            path,
-        }
-    } else {
-        Bounced::Passed {
-            wi,
-            density,
-            shares,
-            path,
-        }
+        }),
     }
 }
 
@@ -168,9 +150,9 @@ fn left_on_glass(constant: bool, lambda: Color) -> Color
 fn lost(left: Path, shares: Option<Shares>) -> Bounced
     ensures { outcome result ≡ lost shares (path left.lambda (weighed left.power (color f0 f0 f0 f0))) }
 {
-    Bounced::Lost {
-        shares,
+    Bounced {
         path: left.weighed(weight::LOST),
+        light: Ok(Light::Lost { shares }),
     }
 }
 

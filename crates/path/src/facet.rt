@@ -62,7 +62,7 @@ impl Facet {
         }
     }
 
-    // The normal that takes wo to wi stands first: its root is the one that most waits for.
+    // The normal that takes wo to wi stands first: more of the work waits for its root than for any other.
     pub(crate) fn seen_on_metal(self, wi: Vec3) -> Seen
         requires { self.view.one_direction ≡ is_delta self.view.mfd.roughness }
         ensures { (result.pdf ≡ conductor_pdf self.view.mfd.roughness self.view.wo wi) × (result.q ≡ shadowing (is_delta self.view.mfd.roughness) self.view.mfd.roughness self.view.wo wi self.wh) }

@@ -7,7 +7,6 @@ ghost use Rattle.numbers.specs.Vec3.{vec3};
 ghost use Rattle.path.specs.Answer.{outcome};
 ghost use Rattle.path.specs.Many.{at, is_set, path_in, bounce_in, numbers_out, bounced, all_bounced, count_of};
 
-use crate::bsdf;
 use crate::plain::BounceResult;
 use crate::prepared::Prepared;
 use crate::records::{Bounce, Bounced, Path};
@@ -78,11 +77,11 @@ fn bounce_in(numbers: &[f64; IN]) -> Bounce
     }
 }
 
-#[tactic(auto, unfolding(crate::specs::Many::numbers_out, crate::specs::Many::result_numbers))]
+#[tactic(auto, unfolding(crate::specs::Many::numbers_out, crate::specs::Many::result_numbers), using(crate::proofs::Outcome::path_carried))]
 fn numbers_out(answer: Bounced) -> [f64; OUT]
     ensures { result ≡ numbers_out (outcome answer) }
 {
-    let p = answer.path();
+    let p = answer.path;
     let r = BounceResult::from(answer);
     [
         p.lambda.s0,
@@ -106,34 +105,33 @@ fn numbers_out(answer: Bounced) -> [f64; OUT]
     ]
 }
 
-// One bounce, from its numbers.
-#[tactic(auto, unfolding(crate::specs::Many::bounced))]
-fn one(m: &Prepared<'_, '_>, numbers: &[f64; IN]) -> [f64; OUT]
-    ensures { result ≡ bounced m.now.surface.now numbers.now }
-{
-    numbers_out(bsdf::bounce_on(m, path_in(numbers), bounce_in(numbers)))
-}
-
-// Stores a bounce's numbers from `at` on. By hand: copy_from_slice goes through memory and calls memcpy, which takes 3 in
-// 100 of a bounce.
+// Stores a bounce's numbers from `at` on.
 fn put(output: &mut [f64], at: usize, numbers: &[f64; OUT])
     requires { at + 18 ≤ length output.old }
     ensures { output.new ≡ paste output.old at numbers.now 18 }
 {
-    for (j, x) in numbers.iter().enumerate() {
-        output[at + j] = *x;
-    }
+    output[at..at + OUT].copy_from_slice(numbers);
 }
 
-// The first `n` bounces. By hand, the place of each in the output: std says nothing of what a slice ends as behind
-// `as_chunks_mut`.
-fn run(m: &Prepared<'_, '_>, input: &[f64], output: &mut [f64], n: usize)
-    requires { (27 * n ≤ length input.now) × (18 * n ≤ length output.old) }
-    ensures { output.new ≡ all_bounced m.now.surface.now input.now n ++ drop (18 * n) output.old }
-{
-    let (records, _) = input.as_chunks::<IN>();
-    for (i, numbers) in records[..n].iter().enumerate() {
-        put(output, OUT * i, &one(m, numbers));
+impl Prepared<'_, '_> {
+    // One bounce, from its numbers.
+    #[tactic(auto, unfolding(crate::specs::Many::bounced))]
+    fn bounced(&self, numbers: &[f64; IN]) -> [f64; OUT]
+        ensures { result ≡ bounced self.now.surface.now numbers.now }
+    {
+        numbers_out(self.bounce(path_in(numbers), bounce_in(numbers)))
+    }
+
+    // The first `n` bounces. By hand, the place of each in the output: std says nothing of what a slice ends as behind
+    // `as_chunks_mut`.
+    fn run(&self, input: &[f64], output: &mut [f64], n: usize)
+        requires { (27 * n ≤ length input.now) × (18 * n ≤ length output.old) }
+        ensures { output.new ≡ all_bounced self.now.surface.now input.now n ++ drop (18 * n) output.old }
+    {
+        let (records, _) = input.as_chunks::<IN>();
+        for (i, numbers) in records[..n].iter().enumerate() {
+            put(output, OUT * i, &self.bounced(numbers));
+        }
     }
 }
 
@@ -150,6 +148,6 @@ pub fn bounces(m: &Microsurface<'_>, input: &[f64], output: &mut [f64]) -> usize
     ensures { (result ≡ count_of (length input.now) (length output.old)) × (output.new ≡ all_bounced m.now input.now result ++ drop (18 * result) output.old) }
 {
     let n = count(input.len(), output.len());
-    run(&Prepared::new(m), input, output, n);
+    Prepared::new(m).run(input, output, n);
     n
 }

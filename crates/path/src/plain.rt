@@ -1,10 +1,11 @@
 // An answer as a plain record, laid out as C has it: document 01's number, which is 0 where the bounce
 // is accepted, and the values, which are zeros where there are none.
-ghost use Rattle.std.specs.Prelude.{◌≡◌};
+ghost use Rattle.std.specs.Prelude.{◌≡◌, cond};
 ghost use Rattle.path.specs.Answer.{outcome};
+ghost use Rattle.path.specs.declared.plain.Case.TheVariants.{Reflected, Passed};
 ghost use Rattle.path.specs.Plain.{density_record, shares_record, bounce_result};
 
-use crate::records::{Bounced, Shares};
+use crate::records::{Bounced, Light, Shares};
 use numbers::vec3::Vec3;
 
 // `finite` is 1 where there is a density and it is finite, else 0. By hand: C has no Option.
@@ -33,6 +34,19 @@ enum Case {
     Passed = 3,
 }
 
+impl Case {
+    // Light that is sent on, by the branch that was taken.
+    fn sent(reflection: bool) -> Case
+        ensures { result ≡ cond reflection Reflected Passed }
+    {
+        if reflection {
+            Case::Reflected
+        } else {
+            Case::Passed
+        }
+    }
+}
+
 // `number` is the refusal's, and `outcome` that of a `Case`. By hand, with numbers: no enum crosses to C.
 #[repr(C)]
 #[derive(Clone, Copy)]
@@ -48,11 +62,7 @@ pub struct BounceResult {
 const NOTHING: BounceResult = BounceResult {
     number: 0,
     outcome: 0,
-    wi: Vec3 {
-        x: 0.0,
-        y: 0.0,
-        z: 0.0,
-    },
+    wi: Vec3::ZERO,
     density: DensityRecord {
         finite: 0,
         value: 0.0,
@@ -95,38 +105,28 @@ impl From<Option<Shares>> for SharesRecord {
 impl From<Bounced> for BounceResult {
     ghost from_gives = { λ answer r. r ≡ bounce_result (outcome answer) };
 
-    #[tactic(auto, unfolding(crate::specs::Answer::outcome, crate::specs::Plain::bounce_result))]
+    #[tactic(auto, unfolding(crate::specs::Answer::outcome, crate::specs::Plain::bounce_result), using(crate::proofs::Outcome::sent_result))]
     fn from(answer: Bounced) -> Self {
-        match answer {
-            Bounced::Refused { why, .. } => BounceResult {
+        match answer.light {
+            Err(why) => BounceResult {
                 number: why.number(),
                 outcome: Case::Refused as u64,
                 ..NOTHING
             },
-            Bounced::Lost { shares, .. } => BounceResult {
+            Ok(Light::Lost { shares }) => BounceResult {
                 outcome: Case::Lost as u64,
                 shares: shares.into(),
                 ..NOTHING
             },
-            Bounced::Reflected {
-                wi,
-                density,
-                shares,
-                ..
-            } => BounceResult {
-                outcome: Case::Reflected as u64,
-                wi,
-                density: density.into(),
-                shares: shares.into(),
-                ..NOTHING
-            },
-            Bounced::Passed {
-                wi,
-                density,
-                shares,
-                ..
-            } => BounceResult {
-                outcome: Case::Passed as u64,
+            Ok(
+                Light::Sent {
+                    reflection,
+                    wi,
+                    density,
+                    shares,
+                },
+            ) => BounceResult {
+                outcome: Case::sent(reflection) as u64,
                 wi,
                 density: density.into(),
                 shares: shares.into(),

@@ -2,7 +2,6 @@
 ghost use Rattle.std.specs.Prelude.{◌≡◌};
 ghost use Rattle.path.specs.Path.{path, start, weighed};
 ghost use Rattle.numbers.specs.Refusal.{answer};
-ghost use Rattle.path.specs.Answer.{outcome, path_of};
 
 use crate::wavelength;
 use numbers::refusal::{Refusal, refuse};
@@ -38,7 +37,7 @@ pub struct Bounce {
 
 impl Bounce {
     // The point of the disk at which a facet's normal is sampled.
-    pub fn disk_point(self) -> DiskPoint
+    pub(crate) fn disk_point(self) -> DiskPoint
         ensures { (result.disk ≡ self.disk) × (result.c ≡ self.c) × (result.s ≡ self.s) }
     {
         DiskPoint {
@@ -56,54 +55,27 @@ pub struct Shares {
     pub passed: f64,
 }
 
-// A refused bounce carries the path as it was; every other the path with its new powers. A density is given where it is
-// finite.
+// What becomes of light that a surface meets: it is lost, or sent on, reflected or passed. A density is given where it
+// is finite.
 #[derive(Clone, Copy)]
-pub enum Bounced {
-    Refused {
-        why: Refusal,
-        path: Path,
-    },
+pub enum Light {
     Lost {
         shares: Option<Shares>,
-        path: Path,
     },
-    Reflected {
+    Sent {
+        reflection: bool,
         wi: Vec3,
         density: Option<f64>,
         shares: Option<Shares>,
-        path: Path,
-    },
-    Passed {
-        wi: Vec3,
-        density: Option<f64>,
-        shares: Option<Shares>,
-        path: Path,
     },
 }
 
-impl Bounced {
-    // The path that an answer carries.
-    #[tactic(auto, unfolding(crate::specs::Answer::outcome, crate::specs::Answer::path_of))]
-    pub fn path(self) -> Path
-        ensures { result ≡ path_of (outcome self) }
-    {
-        match self {
-            Bounced::Refused { path, .. }
-            | Bounced::Lost { path, .. }
-            | Bounced::Reflected { path, .. }
-            | Bounced::Passed { path, .. } => path,
-        }
-    }
+// What a bounce answers. A refused bounce's path is as it was, every other's has its new powers.
+#[derive(Clone, Copy)]
+pub struct Bounced {
+    pub path: Path,
+    pub light: Result<Light, Refusal>,
 }
-
-// The whole power at each wavelength.
-const ONES: Color = Color {
-    s0: 1.0,
-    s1: 1.0,
-    s2: 1.0,
-    s3: 1.0,
-};
 
 impl Path {
     // A path at four wavelengths of the range.
@@ -114,7 +86,7 @@ impl Path {
         refuse(Refusal::Wavelength, wavelength::is_start(lambda))?;
         Ok(Path {
             lambda,
-            power: ONES,
+            power: Color::ONE,
         })
     }
 

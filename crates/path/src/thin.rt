@@ -13,6 +13,6 @@ pub fn bounce_on(path: &mut Path, m: &Microsurface<'_>, b: Bounce) -> Bounced
 {
     let before = *path;
     let answer = bsdf::bounce(before, m, b);
-    *path = answer.path();
+    *path = answer.path;
     answer
 }

@@ -3,9 +3,8 @@ ghost use Rattle.std.specs.Prelude.{◌≡◌};
 ghost use Rattle.path.specs.Path.{is_start, leading, terminate, is_path_lambda};
 
 use numbers::dense_spectrum;
-use optics::color::Color;
-
 pub use numbers::dense_spectrum::TERMINATED;
+use optics::color::Color;
 
 // The wavelength of the leading sample, which is never ended.
 #[tactic(auto, unfolding(crate::specs::Path::leading))]

@@ -7,12 +7,7 @@ use crate::wavelength::TERMINATED;
 use optics::color::Color;
 
 // The weights of light that is lost.
-pub(crate) const LOST: Color = Color {
-    s0: 0.0,
-    s1: 0.0,
-    s2: 0.0,
-    s3: 0.0,
-};
+pub(crate) const LOST: Color = Color::ZERO;
 
 // The share of light that metal reflects, from its Fresnel term `f`: rounding may take that above 1.
 fn metal_share(f: f64) -> f64

@@ -138,6 +138,7 @@ fn measure_on(m: &Microsurface<'_>, leading: f64) -> Measure {
 
 // A bounce of the path that is held as `p`, which is then the path that the answer carries: the same as
 // before if the bounce is refused. None if none is held.
+#[tactic(auto, using(path::proofs::Outcome::path_carried))]
 fn bounce_held(
     paths: &mut Places<Path, { sizes::PATHS }>,
     p: u64,
@@ -153,7 +154,7 @@ fn bounce_held(
 {
     let before = *paths.get(p)?;
     let answer = bsdf::bounce(before, m, b);
-    paths.keep(p, answer.path());
+    paths.keep(p, answer.path);
     Some(answer)
 }
 

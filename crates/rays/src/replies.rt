@@ -4,7 +4,7 @@ use candidates::owned::List;
 use numbers::refusal::{Check, Refusal};
 use numbers::vec3::Vec3;
 use optics::color::Color;
-use path::records::{Bounced, Path, Shares};
+use path::records::{Bounced, Light, Path, Shares};
 use std::fmt;
 use std::fmt::Write;
 use text::answers;
@@ -100,6 +100,15 @@ fn left(out: &mut Output<'_>, given: Option<Shares>, path: Path) -> Outcome {
     answers::ended(out)
 }
 
+// The branch that light took.
+fn branch(out: &mut Output<'_>, reflection: bool) {
+    out.text(if reflection {
+        b" reflected"
+    } else {
+        b" passed"
+    });
+}
+
 // A direction and its density.
 fn sampled(out: &mut Output<'_>, wi: Vec3, given: Option<f64>, measure: Measure) {
     out.labelled_numbers(b" wi", &[wi.x, wi.y, wi.z]);
@@ -108,31 +117,23 @@ fn sampled(out: &mut Output<'_>, wi: Vec3, given: Option<f64>, measure: Measure)
 
 // The answer to a bounce, after the path's index.
 fn bounced(out: &mut Output<'_>, answer: Bounced, measure: Measure) -> Outcome {
-    match answer {
-        Bounced::Refused { why, path: _ } => refused(out, why),
-        Bounced::Lost { shares, path } => {
+    match answer.light {
+        Err(why) => refused(out, why),
+        Ok(Light::Lost { shares }) => {
             out.text(b" lost");
-            left(out, shares, path)
+            left(out, shares, answer.path)
         }
-        Bounced::Reflected {
-            wi,
-            density,
-            shares,
-            path,
-        } => {
-            out.text(b" reflected");
+        Ok(
+            Light::Sent {
+                reflection,
+                wi,
+                density,
+                shares,
+            },
+        ) => {
+            branch(out, reflection);
             sampled(out, wi, density, measure);
-            left(out, shares, path)
-        }
-        Bounced::Passed {
-            wi,
-            density,
-            shares,
-            path,
-        } => {
-            out.text(b" passed");
-            sampled(out, wi, density, measure);
-            left(out, shares, path)
+            left(out, shares, answer.path)
         }
     }
 }

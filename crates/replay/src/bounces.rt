@@ -35,5 +35,5 @@ pub fn replay(case: &mut Case<'_>, spectra: Spectra<'_>) -> bool {
         spectra,
     };
     let answer = bsdf::bounce(path_of(&w), &m, bounce_of(&w));
-    case.holds(BounceResult::from(answer)) & case.holds(answer.path())
+    case.holds(BounceResult::from(answer)) & case.holds(answer.path)
 }

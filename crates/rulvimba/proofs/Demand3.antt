@@ -9,9 +9,10 @@ use lib.Dec.{leb}
 use lib.Ieee.{Float, le}
 use lib.ListN.{length}
 use borrow.Author.Tests.{leb-true, leb-false}
-use Rattle.std.proofs.Common.{Option, Some, None}
+use Rattle.std.proofs.Common.{Option, Some, None, Result, Ok, Err}
 use Rattle.floats.specs.Float.{f0, is_finite}
 use Rattle.numbers.specs.Refusal.{Verdict, accepted, rejected}
+use Rattle.numbers.specs.declared.refusal.Refusal.{Refusal}
 use Rattle.numbers.proofs.refusal.Numbers.{number_positive}
 use Rattle.optics.specs.Surface.{Microsurface, kind_code, kind_of}
 use Rattle.optics.specs.Bxdf.{Scattered, scattered, totally}
@@ -23,11 +24,12 @@ use Rattle.path.specs.declared.records.Path.{Path}
 use Rattle.path.specs.declared.records.Bounce.{Bounce}
 use Rattle.path.specs.declared.records.Shares.{Shares}
 use Rattle.path.specs.declared.records.Bounced.{Bounced}
-use Rattle.path.specs.declared.records.Bounced.TheVariants as B
+use Rattle.path.specs.declared.records.Light.{Light}
+use Rattle.path.specs.declared.records.Light.TheVariants as L
 use Rattle.path.specs.declared.plain.BounceResult.{BounceResult}
 use Rattle.path.specs.Path.{path, ones, start}
 use Rattle.path.specs.Bounce.{check_bounce, lambda_on, scatter, advanced}
-use Rattle.path.specs.Answer.{two_shares, Outcome, outcome, branch_of, worked, on_surface, answered, bounce, path_of}
+use Rattle.path.specs.Answer.{two_shares, Outcome, outcome_of, outcome, branch_of, worked, on_surface, answered, bounce, path_of}
 use Rattle.path.specs.Plain.{density_record, shares_record, bounce_result}
 use Rattle.path.specs.Demand3 as Path
 use Rattle.path.specs.Demand3.{ColorF64, SharesHold, DensityHolds, AnswerHolds, Run, end, bounced, Throughout, Answered}
@@ -116,12 +118,16 @@ shares_record_lem Metal (Some F) h e = absurd h
 shares_record_lem Glass None h e = absurd h
 shares_record_lem Glass (Some F) h e = h
 
+by_light : (kind : Kind) (p : Path) (light : Result Light Refusal) → AnswerHolds kind (outcome_of p light) → Handed kind (bounce_result (outcome_of p light))
+unfolding branch_of bounce_result
+by_light kind p (Err why) h = record { given = λ e. let z = number_positive why in absurd (omega arith); shares = λ e. absurd (omega arith); density = no_density_lem }
+by_light kind p (Ok (L.Lost shares)) h = record { given = λ _. shares_given kind shares h; shares = shares_record_lem kind shares h; density = no_density_lem }
+by_light kind p (Ok (L.Sent true wi density shares)) h = record { given = λ _. shares_given kind shares h.0; shares = shares_record_lem kind shares h.0; density = density_record_lem density h.1 }
+by_light kind p (Ok (L.Sent false wi density shares)) h = record { given = λ _. shares_given kind shares h.0; shares = shares_record_lem kind shares h.0; density = density_record_lem density h.1 }
+
 handed : (kind : Kind) (a : Bounced) → AnswerHolds kind (outcome a) → Handed kind (bounce_result (outcome a))
-unfolding outcome bounce_result
-handed kind (B.Refused why p) h = record { given = λ e. let z = number_positive why in absurd (omega arith); shares = λ e. absurd (omega arith); density = no_density_lem }
-handed kind (B.Lost shares p) h = record { given = λ _. shares_given kind shares h; shares = shares_record_lem kind shares h; density = no_density_lem }
-handed kind (B.Reflected wi density shares p) h = record { given = λ _. shares_given kind shares h.0; shares = shares_record_lem kind shares h.0; density = density_record_lem density h.1 }
-handed kind (B.Passed wi density shares p) h = record { given = λ _. shares_given kind shares h.0; shares = shares_record_lem kind shares h.0; density = density_record_lem density h.1 }
+unfolding outcome
+handed kind a h = by_light kind a.path a.light h
 
 -- ---- the number of the kind, which is 0 or 1 unless the bounce is refused
 kind_kept : (n : ℕ) → n ≤ 1 → kind_code (kind_of n) ≡ n

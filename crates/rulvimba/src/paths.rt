@@ -51,15 +51,12 @@ fn store(numbers: &mut [f64; 8], path: Path)
 }
 
 // Stores the path that an answer carries; a refusal stores nothing.
-#[tactic(auto, unfolding(crate::specs::Paths::path_after, path::specs::Answer::outcome))]
+#[tactic(auto, using(crate::proofs::AfterAnswer::path_after_lem))]
 fn keep(numbers: &mut [f64; 8], answer: Bounced)
     ensures { numbers.new ≡ path_after numbers.old (outcome answer) }
 {
-    match answer {
-        Bounced::Refused { .. } => {}
-        Bounced::Lost { path, .. }
-        | Bounced::Reflected { path, .. }
-        | Bounced::Passed { path, .. } => store(numbers, path),
+    if answer.light.is_ok() {
+        store(numbers, answer.path);
     }
 }
 

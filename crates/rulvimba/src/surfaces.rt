@@ -79,7 +79,7 @@ pub fn lent<'a>(
 
 const NO_SURFACE: SurfaceRecord = SurfaceRecord {
     kind: Kind::Metal as u64,
-    roughness: Vec2 { x: 0.0, y: 0.0 },
+    roughness: Vec2::ZERO,
 };
 
 impl From<Result<Surface, Refusal>> for SurfaceResult {

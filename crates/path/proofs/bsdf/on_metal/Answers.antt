@@ -2,7 +2,7 @@
 use Rattle.std.proofs.Common.{sym}
 use Rattle.optics.specs.Surface.{medium}
 use Rattle.optics.proofs.SharedTerms.{f_metal_from_lem}
-use Rattle.path.specs.Answer.{outcome}
+use Rattle.path.specs.Answer.{outcome, branch_of}
 use Rattle.path.proofs.OnSurface.{metal_backface, metal_lost, metal_sent}
 use Rattle.path.proofs.bsdf.on_metal.Goals as goal
 
@@ -21,7 +21,7 @@ pub seen_on_metal-seen-requires : goal.seen_on_metal-seen-requires
 seen_on_metal-seen-requires c = let facet = c.on_metal-facet.ensures in rw (facet.0) facet.1
 
 pub returns : goal.returns
-unfolding outcome
+unfolding outcome branch_of
 returns c =
     let mfd = c.facets-mfd.ensures in
     let p = c.disk_point.ensures in

@@ -1,8 +1,8 @@
--- `path::bsdf::bounce_on` meets its contract: the checks are those of the definition, and what was found of the surface is that of its kind.
+-- `path::prepared::Prepared::bounce` meets its contract: the checks are those of the definition, and what was found of the surface is that of its kind.
 use Rattle.std.proofs.Common.{◌∙◌}
 use Rattle.path.specs.Answer.{bounce, answered, outcome}
 use Rattle.path.proofs.Found.{told, metal_found, glass_found}
-use Rattle.path.proofs.bsdf.bounce_on.Goals as goal
+use Rattle.path.proofs.prepared.Prepared.bounce.Goals as goal
 
 pub returns-in-Err : goal.returns-in-Err
 unfolding bounce answered outcome
