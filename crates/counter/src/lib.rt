@@ -117,7 +117,11 @@ pub fn disney_diffuse(
     ensures { answer result ≡ Counter.disney_diffuse m.now cos_theta_wo cos_theta_wi cos_theta_wh }
 {
     check_surface(m)?;
-    Ok(m.surface.facets().disney_diffuse(cos_theta_wo, cos_theta_wi, cos_theta_wh))
+    Ok(
+        m.surface
+            .facets()
+            .disney_diffuse(cos_theta_wo, cos_theta_wi, cos_theta_wh),
+    )
 }
 
 // ---- Fresnel

@@ -104,10 +104,7 @@ impl<'a> DenseSpectrum<'a> {
     pub fn entry(&self, i: u64) -> f64
         ensures { result ≡ entry self.now i }
     {
-        self.values
-            .get(i as usize)
-            .copied()
-            .unwrap_or(float::nan())
+        self.values.get(i as usize).copied().unwrap_or(float::nan())
     }
 
     // Whether the test holds of every entry. The loop has no way out, so that the compiler tests several entries at a

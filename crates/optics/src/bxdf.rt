@@ -104,14 +104,7 @@ fn sample_bent(snell: Snell, wo: Vec3, wh: Vec3) -> Sampled
 
 // The density of the sampled directions, on local directions; `at` is what the leading wavelength has.
 #[tactic(auto, unfolding(crate::specs::Density::pdf_of))]
-pub fn pdf(
-    kind: Kind,
-    mfd: Ggx,
-    wo: Vec3,
-    wi: Vec3,
-    reflection: bool,
-    at: OpticalConstants,
-) -> f64
+pub fn pdf(kind: Kind, mfd: Ggx, wo: Vec3, wi: Vec3, reflection: bool, at: OpticalConstants) -> f64
     ensures { result ≡ pdf_of kind mfd.roughness at.eta at.k reflection wo wi }
 {
     match kind {

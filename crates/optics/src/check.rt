@@ -94,9 +94,7 @@ fn outer_holds(kind: Kind, eta: &DenseSpectrum<'_>, outer: &DenseSpectrum<'_>) -
 {
     match kind {
         Kind::Metal => true,
-        Kind::Glass => {
-            outer.is_table() && eta.one_spacing(outer) && all_indices(outer)
-        }
+        Kind::Glass => { outer.is_table() && eta.one_spacing(outer) && all_indices(outer) }
     }
 }
 

@@ -3,7 +3,7 @@
 use Rattle.std.proofs.Common.{◌≡◌, refl, sym, ap, ◌∙◌, subst, ℕ, zero, suc, ◌+◌, ◌*◌, ◌/◌, ◌%◌, ◌≤◌, arith, Bool, true, false, not, cond, true≢false, T, leb, eqb, Float}
 use lib.Dec.{eqb_refl}
 use lib.Ieee.{nan, inf, fin, binary64, is_nan, ne, fits, to_bits, of_bits, of_fields, odd, nan_bits, up, down}
-use borrow.Author.Tests.{lt-leb, leb-true, leb-false}
+use borrow.Author.Tests.{leb-true, leb-false}
 use lib.Ieee.Compare.{differs_from_itself}
 use denote.Floats.{passes}
 use lib.Ieee.Bits.{is_true, of_bits-to_bits, to_bits-lt, nan_bits_is}
