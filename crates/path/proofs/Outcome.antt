@@ -6,7 +6,7 @@ use Rattle.numbers.specs.declared.vec3.Vec3.{Vec3}
 use Rattle.path.specs.declared.records.{Path.Path, Shares.Shares, Light.Light, Bounced.Bounced}
 use Rattle.path.specs.declared.records.Light.TheVariants as L
 use Rattle.path.specs.Answer.{outcome_of, outcome, branch_of, path_of}
-use Rattle.path.specs.Plain.{BounceResult, density_record, shares_record, bounce_result}
+use Rattle.path.specs.Plain.{density_record, shares_record, bounce_result}
 
 by_light : (p : Path) (light : Result Light Refusal) → path_of (outcome_of p light) ≡ p
 unfolding branch_of path_of
