@@ -23,17 +23,17 @@ impl<T: Copy, const N: usize> Places<T, N> {
 
     // What is held as `i`, if anything is.
     pub fn get(&self, i: u64) -> Option<&T>
-        requires { 0 < N }
         ensures { option_copied result ≡ held_in self.now.held N i }
     {
-        self.held[(i % N as u64) as usize].as_ref()
+        self.held.get((i as usize).checked_rem(N)?)?.as_ref()
     }
 
     pub fn keep(&mut self, i: u64, x: T)
-        requires { 0 < N }
         ensures { self.new.held ≡ keep_held self.old.held N i x }
     {
-        self.held[(i % N as u64) as usize] = Some(x);
+        if let Some(at) = (i as usize).checked_rem(N) {
+            self.held[at] = Some(x);
+        }
     }
 }
 

@@ -1,6 +1,4 @@
 // Words in, as they come in a record, and words out, each held to the record's next.
-ghost use Rattle.std.specs.Prelude.{◌+◌, ◌<◌, ◌≤◌};
-
 use crate::record;
 use numbers::complex::Complex;
 use numbers::onb::Onb;
@@ -20,7 +18,7 @@ use text::patterns;
 #[derive(Clone, Copy)]
 pub struct Input([f64; 30]);
 
-// What stands in the words from the i-th on.
+// What stands in the words from the i-th on. Behind the last stand zeros.
 impl Input {
     // The next `ins` words of the file.
     pub fn read(file: &mut File, ins: u64) -> Input {
@@ -29,22 +27,25 @@ impl Input {
         Input(words)
     }
 
-    pub fn float(&self, i: usize) -> f64
-        requires { i < 30 }
-    {
-        self.0[i]
+    fn words<const N: usize>(&self, i: usize) -> [f64; N] {
+        let mut words = [0.0; N];
+        for (word, x) in words.iter_mut().zip(self.0.iter().skip(i)) {
+            *word = *x;
+        }
+        words
     }
 
-    pub fn is_true(&self, i: usize) -> bool
-        requires { i < 30 }
-    {
+    pub fn float(&self, i: usize) -> f64 {
+        let [x] = self.words::<1>(i);
+        x
+    }
+
+    pub fn is_true(&self, i: usize) -> bool {
         self.float(i) != 0.0
     }
 
     // The kind of a surface: glass where the word is not 0.
-    pub fn kind(&self, i: usize) -> Kind
-        requires { i < 30 }
-    {
+    pub fn kind(&self, i: usize) -> Kind {
         if self.is_true(i) {
             Kind::Glass
         } else {
@@ -52,54 +53,35 @@ impl Input {
         }
     }
 
-    pub fn vec2(&self, i: usize) -> Vec2
-        requires { i + 2 ≤ 30 }
-    {
-        Vec2::new(self.float(i), self.float(i + 1))
+    pub fn vec2(&self, i: usize) -> Vec2 {
+        let [x, y] = self.words::<2>(i);
+        Vec2 { x, y }
     }
 
-    pub fn vec3(&self, i: usize) -> Vec3
-        requires { i + 3 ≤ 30 }
-    {
-        self.vec2(i).extend(self.float(i + 2))
+    pub fn vec3(&self, i: usize) -> Vec3 {
+        let [x, y, z] = self.words::<3>(i);
+        Vec3 { x, y, z }
     }
 
-    pub fn color(&self, i: usize) -> Color
-        requires { i + 4 ≤ 30 }
-    {
-        Color {
-            s0: self.float(i),
-            s1: self.float(i + 1),
-            s2: self.float(i + 2),
-            s3: self.float(i + 3),
-        }
+    pub fn color(&self, i: usize) -> Color {
+        let [s0, s1, s2, s3] = self.words::<4>(i);
+        Color { s0, s1, s2, s3 }
     }
 
-    pub fn facets(&self, i: usize) -> Ggx
-        requires { i + 2 ≤ 30 }
-    {
+    pub fn facets(&self, i: usize) -> Ggx {
         Ggx {
             roughness: self.vec2(i),
         }
     }
 
-    pub fn constants(&self, i: usize) -> OpticalConstants
-        requires { i + 2 ≤ 30 }
-    {
-        OpticalConstants {
-            eta: self.float(i),
-            k: self.float(i + 1),
-        }
+    pub fn constants(&self, i: usize) -> OpticalConstants {
+        let [eta, k] = self.words::<2>(i);
+        OpticalConstants { eta, k }
     }
 
-    pub fn disk_point(&self, i: usize) -> DiskPoint
-        requires { i + 3 ≤ 30 }
-    {
-        DiskPoint {
-            disk: self.float(i),
-            c: self.float(i + 1),
-            s: self.float(i + 2),
-        }
+    pub fn disk_point(&self, i: usize) -> DiskPoint {
+        let [disk, c, s] = self.words::<3>(i);
+        DiskPoint { disk, c, s }
     }
 
     // The surface that a call begins with: its kind, and its roughness.
