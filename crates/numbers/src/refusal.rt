@@ -25,8 +25,7 @@ pub enum Refusal {
 pub type Check = Result<(), Refusal>;
 
 impl Refusal {
-    // The number of the refusal. By hand: the definitions have this name too, and a `From` beside it would say the same
-    // twice.
+    // The number of the refusal. By hand: it was public before, and a `From` beside it would say the same twice.
     #[tactic(auto, unfolding(crate::specs::Refusal::number))]
     pub fn number(self) -> u64
         ensures { result ≡ number self }

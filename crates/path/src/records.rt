@@ -20,7 +20,7 @@ pub struct Path {
 
 // A bounce's arguments but the path and the surface: `wo` and the shading normal in world space, the
 // number `u`, the disk number, a point (c, s) of the circle, and the filters of reflected and passed
-// light.
+// light. By hand, the three numbers of a point of the disk: so C lays a bounce out.
 #[repr(C)]
 #[derive(Clone, Copy)]
 pub struct Bounce {

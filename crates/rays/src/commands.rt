@@ -13,7 +13,7 @@ use numbers::vec3::Vec3;
 use optics::bxdf::dielectric;
 use optics::color::Color;
 use optics::microfacet;
-use optics::microfacet::{Ggx, Kind, Microsurface, Spectra};
+use optics::microfacet::{Kind, Microsurface, Spectra};
 use path::bsdf;
 use path::records::{Bounce, Bounced, Path};
 use text::answers;
@@ -111,9 +111,7 @@ fn samples(spectra: [DenseSpectrum<'_>; 3]) -> usize {
 // Smooth facets send light into one direction whatever the index, which is then not read: that takes a pass
 // over the outer spectrum.
 fn is_one_direction(m: &Microsurface<'_>, leading: f64) -> bool {
-    let facets = Ggx {
-        roughness: m.surface.roughness,
-    };
+    let facets = m.surface.facets();
     if facets.is_delta() {
         return true;
     }
@@ -249,7 +247,7 @@ impl Job {
         }
     }
 
-    // The answer to the line `number` of a job, without its line feed.
+    // Answers the line `number` of a job; `text` is the line without its line feed.
     pub fn answer(&mut self, text: &[u8], number: u64, out: &mut Output<'_>) -> Outcome {
         let mut line = Line::new(text);
         let Ok(word) = line.word() else {

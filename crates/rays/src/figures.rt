@@ -7,7 +7,7 @@ use text::answers;
 use text::answers::{Outcome, Tally};
 use text::output::Output;
 
-// `number` is the next line's. Of a line that is too long the rest is passed over.
+// `number` is the next line's; `passing`, whether the rest of a line that is too long is being passed over.
 #[derive(Drop)]
 pub struct Figures<'a, P: Print> {
     rt: &'a P,

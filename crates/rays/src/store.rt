@@ -73,7 +73,7 @@ impl Entries {
         DenseSpectrum::new(self.values.get(..self.count).unwrap_or(&[]))
     }
 
-    // With a lone entry at each of so many wavelengths.
+    // Puts a lone entry at each of so many wavelengths.
     pub fn spread(&mut self, samples: usize) {
         if self.count == 1 {
             let x = self.values[0];

@@ -22,20 +22,20 @@ pub enum Family {
 impl Family {
     // The family of a function's number, where glass lies in air and where it doesn't.
     pub fn of(number: u64, air: bool) -> Family {
-        match number / 100 {
-            _ if number == 990 && air => Family::Bounces,
-            _ if number == 990 => Family::BouncesOutsideAir,
+        match number {
+            990 if air => Family::Bounces,
+            990 => Family::BouncesOutsideAir,
             _ if !air => Family::OutsideAir,
-            1 => Family::Floats,
-            2 => Family::Vectors2,
-            3 => Family::Vectors3,
-            4 => Family::Complexes,
-            5 => Family::Bases,
-            6 => Family::Angles,
-            7 => Family::Spectra,
-            8 => Family::Checked,
-            9 => Family::Optics,
-            n => Family::Unknown(n),
+            100..=199 => Family::Floats,
+            200..=299 => Family::Vectors2,
+            300..=399 => Family::Vectors3,
+            400..=499 => Family::Complexes,
+            500..=599 => Family::Bases,
+            600..=699 => Family::Angles,
+            700..=799 => Family::Spectra,
+            800..=899 => Family::Checked,
+            900..=999 => Family::Optics,
+            n => Family::Unknown(n / 100),
         }
     }
 }

@@ -8,7 +8,7 @@ use family::Family;
 use record::Head;
 use spectrum::Spectra;
 use std::fs::File;
-use std::io;
+use std::{fmt, io};
 use text::records;
 use text::records::{MOST, Tally};
 use words::Input;
@@ -38,13 +38,13 @@ struct Counts {
     tally: Tally,
 }
 
-fn print_counts(rt: &impl Print, counts: &Counts) -> io::Result<()> {
-    let family = counts.family;
-    let Tally {
-        records,
-        differences,
-    } = counts.tally;
-    println!(rt; "{family}: {records} records, {differences} differ")
+impl fmt::Display for Counts {
+    fn fmt<W: fmt::Write>(&self, f: &mut fmt::Formatter<W>) -> fmt::Result {
+        let family = self.family;
+        let records = self.tally.records;
+        let differences = self.tally.differences;
+        write!(f, "{family}: {records} records, {differences} differ")
+    }
 }
 
 // Whether the libraries' answer is the record's. By a match: a function goes by its number, which is all that the file
@@ -71,7 +71,7 @@ fn begin_family(rt: &impl Print, counts: &mut Counts, family: Family) -> io::Res
         return Ok(());
     }
     if 0 < counts.tally.records {
-        print_counts(rt, counts)?;
+        println!(rt; "{counts}")?;
     }
     counts.family = family;
     counts.tally = Tally::default();
@@ -117,7 +117,7 @@ fn replay(rt: &impl Print, file: &mut File) -> io::Result<()> {
     };
     for line in 1..MOST {
         let Some(head) = record::read_head(file) else {
-            return print_counts(rt, &counts);
+            return println!(rt; "{counts}");
         };
         counts.line = line;
         step(rt, file, &mut counts, &mut spectra, head)?;

@@ -1,5 +1,5 @@
-// The spectra for the records that come after them. The records 700, 800, 970, 980 and 940 have the entries: of a
-// spectrum of numbers or eta, of k and of the outer spectrum. 971, 981 and 941 have the first of 95 entries, 972, 982
+// The spectra for the records that come after them. The records 700, 800, 970, 980 and 940 have the entries: of
+// what the crate `numbers` is handed or of eta, of k and of the outer spectrum. 971, 981 and 941 have the first of 95 entries, 972, 982
 // and 942 of 471, which stand by turns.
 use crate::record;
 use crate::record::Head;
@@ -11,7 +11,8 @@ const MOST: usize = DenseSpectrum::FINE_SAMPLES;
 
 const ONES: [f64; MOST] = [1.0; MOST];
 
-// The first `n` entries once more in the places after them, by turns.
+// The first `n` entries once more in the places after them, by turns. By index: each entry is one that stands before it in
+// the same array.
 fn by_turns(entries: &mut [f64], n: usize) {
     for i in n..entries.len() {
         entries[i] = entries[i - n];
@@ -34,6 +35,7 @@ impl Spectrum {
     fn read(file: &mut File, head: Head) -> Spectrum {
         let mut entries = [0.0; MOST];
         record::read_floats(file, head.ins, &mut entries);
+        // a count that is no number reads as some entries too
         let n = (head.ins % 256) as usize;
         if head.number % 10 == 0 {
             return Spectrum { entries, n };
@@ -84,7 +86,7 @@ impl Spectra {
         true
     }
 
-    // A spectrum of numbers, which is in the place of eta.
+    // The spectrum that the crate `numbers` is handed, which lies in eta's place.
     pub fn numbers(&self) -> DenseSpectrum<'_> {
         self.eta.lent()
     }

@@ -5,7 +5,7 @@ use numbers::onb::Onb;
 use numbers::refusal::Refusal;
 use numbers::vec2::Vec2;
 use numbers::vec3::Vec3;
-use optics::bxdf::{NoDirection, Refracted, Sample, Sampled};
+use optics::bxdf::{NoDirection, Refracted, Sample};
 use optics::color::Color;
 use optics::microfacet::{DiskPoint, Ggx, Kind, OpticalConstants, Surface};
 use path::plain::{BounceResult, DensityRecord, SharesRecord};
@@ -179,13 +179,13 @@ impl<T: Value> Words for Result<T, Refusal> {
     }
 }
 
-// A mirror's or a bend's answer: 1 and a direction, 2 for none, or 3 for total reflection.
-impl Words for Refracted {
+// What a mirror, a bend or a sampler answers: 1 and the value, and zeros behind 2 for none or 3 for total reflection.
+impl<T: Value> Words for Result<T, NoDirection> {
     fn same(self, file: &mut File) -> bool {
         match self {
-            Ok(wi) => 1u64.same(file) & wi.same(file),
-            Err(NoDirection::WrongSide) => 2u64.same(file) & are_zeros(file, 3),
-            Err(NoDirection::Total) => 3u64.same(file) & are_zeros(file, 3),
+            Ok(value) => 1u64.same(file) & value.same(file),
+            Err(NoDirection::WrongSide) => 2u64.same(file) & are_zeros(file, T::COUNT),
+            Err(NoDirection::Total) => 3u64.same(file) & are_zeros(file, T::COUNT),
         }
     }
 }
@@ -196,16 +196,10 @@ impl Words for Option<Vec3> {
     }
 }
 
-// A sampler's answer: the same cases, whether it is a reflection, and the direction.
-impl Words for Sampled {
+// Whether it is a reflection, and the direction.
+impl Words for Sample {
     fn same(self, file: &mut File) -> bool {
-        match self {
-            Ok(Sample { wi, reflection }) => {
-                1u64.same(file) & reflection.same(file) & wi.same(file)
-            }
-            Err(NoDirection::WrongSide) => 2u64.same(file) & are_zeros(file, 4),
-            Err(NoDirection::Total) => 3u64.same(file) & are_zeros(file, 4),
-        }
+        self.reflection.same(file) & self.wi.same(file)
     }
 }
 
@@ -247,6 +241,10 @@ impl Value for f64 {
 
 impl Value for Vec3 {
     const COUNT: u64 = 3;
+}
+
+impl Value for Sample {
+    const COUNT: u64 = 4;
 }
 
 impl Value for Onb {

@@ -7,7 +7,7 @@ use candidates::owned::List;
 use numbers::refusal::Check;
 use record::{Call, Head};
 use std::fs::File;
-use std::io;
+use std::{fmt, io};
 use text::records;
 use text::records::{MOST, Tally};
 
@@ -21,6 +21,18 @@ struct Counts {
     calls: Tally,
 }
 
+impl fmt::Display for Counts {
+    fn fmt<W: fmt::Write>(&self, f: &mut fmt::Formatter<W>) -> fmt::Result {
+        let calls = self.calls.records;
+        let lists = self.lists;
+        let differences = self.calls.differences;
+        write!(
+            f,
+            "candidates: {calls} calls in {lists} lists, {differences} differ"
+        )
+    }
+}
+
 // One call more.
 fn count_call(rt: &impl Print, counts: &mut Counts, same: bool) -> io::Result<()> {
     if !same && counts.calls.differences == 0 {
@@ -30,7 +42,7 @@ fn count_call(rt: &impl Print, counts: &mut Counts, same: bool) -> io::Result<()
     Ok(())
 }
 
-// The number of an answer, 0 where the call was accepted.
+// The number of an answer. By hand: 0 is the record's word for accepted.
 fn number_of(check: Check) -> u64 {
     check.err().map_or(0, |why| why.number())
 }
@@ -57,13 +69,6 @@ fn step(
     count_call(rt, counts, entries && number == head.number)
 }
 
-fn print_counts(rt: &impl Print, counts: &Counts) -> io::Result<()> {
-    println!(rt;
-        "candidates: {} calls in {} lists, {} differ",
-        counts.calls.records, counts.lists, counts.calls.differences
-    )
-}
-
 fn replay(rt: &impl Print, file: &mut File) -> io::Result<()> {
     let mut list = List::new();
     let mut counts = Counts::default();
@@ -75,7 +80,7 @@ fn replay(rt: &impl Print, file: &mut File) -> io::Result<()> {
         step(rt, file, &mut counts, &mut list, head)?;
         records::line_end(file);
     }
-    print_counts(rt, &counts)
+    println!(rt; "{counts}")
 }
 
 // A file that can't be opened is named on standard error, which is no failure of the program.

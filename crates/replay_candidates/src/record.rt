@@ -32,6 +32,7 @@ pub struct Head {
 fn candidate_of(text: &[u8]) -> Candidate
     requires { length text.now ≡ 21 }
 {
+    // an id has four digits, where sixteen are read
     let mut id = [b'0'; 16];
     id[12..].copy_from_slice(&text[..4]);
     Candidate {

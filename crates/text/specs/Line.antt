@@ -1,5 +1,5 @@
 -- What is left of a line whose words are read one after the other, and what is read: a value, or what is wrong and with which word. Definitions only.
-use Rattle.std.specs.Prelude.{ℕ, min, Bool, cond, ◌||◌, Option, Some, None, is_some, ok_or, option_map, false, option_and_then, Result, Ok, Err, List, [], length, take, drop, nat_lt, ◌==◌, slice_index, bytes_eq, codes, is_ok, zero, suc, ◌∷◌, ◌++◌, Float}
+use Rattle.std.specs.Prelude.{ℕ, min, Bool, cond, ◌||◌, Option, Some, None, is_some, ok_or, option_map, option_and_then, Result, Ok, Err, List, [], length, take, drop, nat_lt, ◌==◌, slice_index, bytes_eq, codes, is_ok, zero, suc, ◌∷◌, ◌++◌, Float}
 use Rattle.std.specs.Float.{binary64}
 use Rattle.std.specs.Float.Ieee.{of_bits}
 use denote.Ref.{Bor}
@@ -114,7 +114,7 @@ number l = cond (is_empty (begin l).rest) (Err (fault (begin l) Short)) (ok_or (
 unfoldable pub past_number : Left → Left
 past_number l = record { rest = cond (is_some (number_bits (begin l).rest)) (drop 16 (begin l).rest) (begin l).rest; begun = (begin l).begun }
 
--- ---- numbers one after the other: up to so many, until a test holds or the next word is none
+-- ---- numbers one after the other: up to so many, until a test holds or the next word is no number
 -- a number and those behind it, or none
 abbrev pub read_before : Result Float Fault → List Float → List Float
 read_before (Ok x) xs = x ∷ xs
@@ -142,23 +142,6 @@ first_of n xs values = take n xs ++ drop n values
 -- values with others in their first places, as many as there are of both
 abbrev pub put_first : List Float → List Float → List Float
 put_first xs values = first_of (min (length xs) (length values)) xs values
-
--- ---- as many numbers as there are places for
--- nothing but a word that is no number ends them
-abbrev pub never : Left → Bool
-never l = false
-
--- that there are n of them
-unfoldable pub numbers : ℕ → Left → Result (Unit {0}) Fault
-numbers n l = checked_until never n l
-
--- what is left behind them
-unfoldable pub past_numbers : ℕ → Left → Left
-past_numbers n l = left_until never n l
-
--- the places with those that were read
-unfoldable pub with_numbers : List Float → Left → List Float
-with_numbers values l = put_first (read_until never (length values) l) values
 
 -- ---- the entries of a spectrum. Each takes a byte of the line or more, so that what ends them is never their count
 -- whether a spectrum ends here: at the line's end, before a word of one letter, or before the word `outer`

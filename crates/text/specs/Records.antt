@@ -3,7 +3,7 @@ use Rattle.std.specs.Prelude.{ℕ, Bool, true, false}
 use Rattle.text.specs.declared.records.Tally.{Tally}
 use Rattle.text.specs.Answers.{one_more}
 
--- five digits can't say it
+-- what stands for a decimal that is none: five digits can't say it
 abbrev pub no_number : ℕ
 no_number = 100000
 

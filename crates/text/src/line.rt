@@ -1,7 +1,7 @@
-// The words of a line of a job, read one after the other. The first fault ends the reading: past it nothing
-// is read.
+// The words of a line of a job, read one after the other. A method that finds a fault answers it, and a caller ends
+// there, by `?`.
 ghost use Rattle.std.specs.Prelude.{◌≡◌, ◌<◌, MatchOption, None, Some, drop, length, IfSome, IfOk, OnOk, IsTrue};
-ghost use Rattle.text.specs.Line.{left, unread, shown, begin, next_word, past_word, fault, word, keyword, is_next, past_optional, end, below, decimal_below, index, id, flag, number_bits, number, past_number, spectrum_ends, numbers, past_numbers, with_numbers, entries, past_entries, with_entries};
+ghost use Rattle.text.specs.Line.{left, unread, shown, begin, next_word, past_word, fault, word, keyword, is_next, past_optional, end, below, decimal_below, index, id, flag, number_bits, number, past_number, spectrum_ends, entries, past_entries, with_entries};
 
 use crate::faults::{Fault, Indices, Wrong};
 use crate::words::{from_word, is_blank, split_word};
@@ -15,7 +15,8 @@ const ID_DIGITS: usize = 5;
 
 const IDS: u64 = 65536;
 
-// What is left of a line, and how many of its words were begun.
+// What is left of a line, and how many of its words were begun. Without a Model: a type with a lifetime that has one can't
+// be Copy.
 #[derive(Clone, Copy)]
 pub struct Line<'a> {
     rest: &'a [u8],
@@ -152,18 +153,6 @@ impl<'a> Line<'a> {
         };
         self.rest = rest;
         Ok(patterns::of_bits(bits))
-    }
-
-    // As many numbers as there are places for.
-    pub fn numbers(&mut self, values: &mut [f64]) -> Result<(), Fault>
-        ensures value { result ≡ numbers (length values.old) (left self.old) }
-        ensures rest { left self.new ≡ past_numbers (length values.old) (left self.old) }
-        ensures values { values.new ≡ with_numbers values.old (left self.old) }
-    {
-        for value in values.iter_mut() {
-            *value = self.number()?;
-        }
-        Ok(())
     }
 
     // Whether a spectrum ends here: at the line's end, before a word of one letter, or before the word

@@ -1,5 +1,4 @@
-// Records of recorded answers, a line each, in numbers of so many digits: what the programs that replay them read and
-// count alike.
+// Recorded answers, a record to a line, whose numbers have so many digits each: what both replays read and count alike.
 ghost use Rattle.std.specs.Prelude.{◌≡◌, IfSome, unwrap_or};
 ghost use Rattle.text.specs.Digits.{decimal, hex16};
 ghost use Rattle.text.specs.Records.{no_number, replayed};
@@ -43,7 +42,8 @@ pub fn decimal(text: &[u8]) -> u64
     digits::decimal(text).unwrap_or(NO_NUMBER)
 }
 
-// The value of sixteen hexadecimal digits, and 0 where they are none.
+// The value of sixteen hexadecimal digits, and 0 where they are none. By hand, no Option: a record is held word by word,
+// and a damaged word counts as 0, as one that is missing does.
 pub fn hex16(text: &[u8]) -> u64
     ensures { result ≡ unwrap_or (hex16 text.now) 0 }
 {

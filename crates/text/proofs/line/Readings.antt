@@ -3,7 +3,7 @@ use Rattle.std.proofs.Common.{◌≡◌, ℕ, suc, ◌+◌, ◌-◌, ◌<◌, �
 use Rattle.std.proofs.lemmas.List.{drop_more, take_more, length-drop, length-take-le, set_at}
 use Rattle.std.proofs.Math.Nat.{sub-zero}
 use Rattle.text.specs.declared.faults.Fault.{Fault}
-use Rattle.text.specs.Line.{Left, number, past_number, read_until, checked_until, left_until, first_of, never, numbers, past_numbers, with_numbers, spectrum_ends, and_then, read_entries, entries, past_entries, with_entries}
+use Rattle.text.specs.Line.{Left, number, past_number, read_until, checked_until, left_until, first_of, spectrum_ends, and_then, read_entries, entries, past_entries, with_entries}
 
 -- i of at most n numbers were read, and there `at` is left of l
 pub record Read (ends : Left → Bool) (n : ℕ) (l : Left) (i : ℕ) (at : Left) : Type 0 where
@@ -80,19 +80,6 @@ pub keep : (xs values : List Float) (i : ℕ) (x : Float) → i ≤ length xs �
 keep xs values i x within room taken =
     rw (taken, drop_more values i x room, set_at (take i xs) (get_or values i x) (drop (i + 1) values) x i (length-take-le i xs within))
     (sym (append_assoc (take i xs) (x ∷ []) (drop (i + 1) values)))
-
--- all of them are in their places
-pub record Numbers (values : List Float) (l : Left) (kept : List Float) (at : Left) (answer : Result (Unit {0}) Fault) : Type 0 where
-  pub value : answer ≡ numbers (length values) l
-  pub rest : at ≡ past_numbers (length values) l
-  pub places : kept ≡ with_numbers values l
-
-pub as_numbers : (values kept : List Float) (l at : Left) (i : ℕ) (answer : Result (Unit {0}) Fault) → All never (length values) l i at answer → i ≤ length values
-    → kept ≡ first_of i (read_until never (length values) l) values → Numbers values l kept at answer
-unfolding numbers past_numbers with_numbers
-as_numbers values kept l at i answer all within is =
-    let n : min (length (read_until never (length values) l)) (length values) ≡ i = omega (arith, all.count) in
-    record { value = sym all.checked; rest = sym all.left; places = is ∙ rw n }
 
 -- one more, if there is a place for it
 pub keep_one : (xs values kept : List Float) (i count : ℕ) (x : Float) → i ≤ length xs → count ≡ min i (length values) → count < length values → take (i + 1) xs ≡ take i xs ++ x ∷ []
