@@ -30,15 +30,40 @@ mod vectors2;
 mod vectors3;
 mod words;
 
-// The line of the last record, its family, and what was counted in the family so far.
-#[derive(Clone, Copy)]
-struct Counts {
+// The line of the last record, its family, what was counted in the family so far, and where it is printed.
+#[derive(Drop)]
+struct Counts<'a, P: Print> {
+    rt: &'a P,
     line: u64,
     family: Family,
     tally: Tally,
 }
 
-impl fmt::Display for Counts {
+impl<P: Print> Counts<'_, P> {
+    // A new family is counted anew.
+    fn begin(&mut self, family: Family) -> io::Result<()> {
+        if self.family == family {
+            return Ok(());
+        }
+        if 0 < self.tally.records {
+            println!(self.rt; "{self}")?;
+        }
+        self.family = family;
+        self.tally = Tally::default();
+        Ok(())
+    }
+
+    // One record more.
+    fn count(&mut self, same: bool) -> io::Result<()> {
+        self.tally.count(same);
+        if same {
+            return Ok(());
+        }
+        println!(self.rt; "line {} differs", self.line)
+    }
+}
+
+impl<P: Print> fmt::Display for Counts<'_, P> {
     fn fmt<W: fmt::Write>(&self, f: &mut fmt::Formatter<W>) -> fmt::Result {
         let family = self.family;
         let records = self.tally.records;
@@ -65,52 +90,30 @@ fn holds(case: &mut Case<'_>, spectra: &Spectra) -> bool {
     }
 }
 
-// A new family is counted anew.
-fn begin_family(rt: &impl Print, counts: &mut Counts, family: Family) -> io::Result<()> {
-    if counts.family == family {
-        return Ok(());
-    }
-    if 0 < counts.tally.records {
-        println!(rt; "{counts}")?;
-    }
-    counts.family = family;
-    counts.tally = Tally::default();
-    Ok(())
-}
-
-// One record more.
-fn count_record(rt: &impl Print, counts: &mut Counts, same: bool) -> io::Result<()> {
-    counts.tally.count(same);
-    if same {
-        return Ok(());
-    }
-    println!(rt; "line {} differs", counts.line)
-}
-
 // Reads what follows the head of a record.
-fn step(
-    rt: &impl Print,
+fn step<P: Print>(
     file: &mut File,
-    counts: &mut Counts,
+    counts: &mut Counts<'_, P>,
     spectra: &mut Spectra,
     head: Head,
 ) -> io::Result<()> {
     if spectra.read(file, head) {
         return Ok(());
     }
-    begin_family(rt, counts, Family::of(head.number, spectra.in_air()))?;
+    counts.begin(Family::of(head.number, spectra.in_air()))?;
     let mut case = Case {
         number: head.number,
         input: Input::read(file, head.ins),
         file,
     };
     let same = holds(&mut case, spectra);
-    count_record(rt, counts, same)
+    counts.count(same)
 }
 
 fn replay(rt: &impl Print, file: &mut File) -> io::Result<()> {
     let mut spectra = Spectra::new();
     let mut counts = Counts {
+        rt,
         line: 0,
         family: Family::Unknown(0),
         tally: Tally::default(),
@@ -120,7 +123,7 @@ fn replay(rt: &impl Print, file: &mut File) -> io::Result<()> {
             return println!(rt; "{counts}");
         };
         counts.line = line;
-        step(rt, file, &mut counts, &mut spectra, head)?;
+        step(file, &mut counts, &mut spectra, head)?;
         records::line_end(file);
     }
     Ok(())

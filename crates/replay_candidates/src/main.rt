@@ -13,15 +13,27 @@ use text::records::{MOST, Tally};
 
 mod record;
 
-// The line of the last record, and the lists and calls so far.
-#[derive(Clone, Copy, Default)]
-struct Counts {
+// The line of the last record, the lists and calls so far, and where they are printed.
+#[derive(Drop)]
+struct Counts<'a, P: Print> {
+    rt: &'a P,
     line: u64,
     lists: u64,
     calls: Tally,
 }
 
-impl fmt::Display for Counts {
+impl<P: Print> Counts<'_, P> {
+    // One call more.
+    fn count(&mut self, same: bool) -> io::Result<()> {
+        if !same && self.calls.differences == 0 {
+            println!(self.rt; "line {} is the first that differs", self.line)?;
+        }
+        self.calls.count(same);
+        Ok(())
+    }
+}
+
+impl<P: Print> fmt::Display for Counts<'_, P> {
     fn fmt<W: fmt::Write>(&self, f: &mut fmt::Formatter<W>) -> fmt::Result {
         let calls = self.calls.records;
         let lists = self.lists;
@@ -33,15 +45,6 @@ impl fmt::Display for Counts {
     }
 }
 
-// One call more.
-fn count_call(rt: &impl Print, counts: &mut Counts, same: bool) -> io::Result<()> {
-    if !same && counts.calls.differences == 0 {
-        println!(rt; "line {} is the first that differs", counts.line)?;
-    }
-    counts.calls.count(same);
-    Ok(())
-}
-
 // The number of an answer. By hand: 0 is the record's word for accepted.
 fn number_of(check: Check) -> u64 {
     check.err().map_or(0, |why| why.number())
@@ -49,10 +52,9 @@ fn number_of(check: Check) -> u64 {
 
 // Runs the call of a record, and counts whether what it gave is the record's: the number, and the candidates that are
 // present. All entries of the record are read, whatever came before.
-fn step(
-    rt: &impl Print,
+fn step<P: Print>(
     file: &mut File,
-    counts: &mut Counts,
+    counts: &mut Counts<'_, P>,
     list: &mut List,
     head: Head,
 ) -> io::Result<()> {
@@ -66,18 +68,23 @@ fn step(
         Call::Departure(id) => number_of(list.depart(id)),
     };
     let entries = record::same_entries(file, head.entries, list);
-    count_call(rt, counts, entries && number == head.number)
+    counts.count(entries && number == head.number)
 }
 
 fn replay(rt: &impl Print, file: &mut File) -> io::Result<()> {
     let mut list = List::new();
-    let mut counts = Counts::default();
+    let mut counts = Counts {
+        rt,
+        line: 0,
+        lists: 0,
+        calls: Tally::default(),
+    };
     for line in 1..MOST {
         let Some(head) = record::read_head(file) else {
             break;
         };
         counts.line = line;
-        step(rt, file, &mut counts, &mut list, head)?;
+        step(file, &mut counts, &mut list, head)?;
         records::line_end(file);
     }
     println!(rt; "{counts}")
