@@ -1,6 +1,6 @@
 // One column of a list in memory, of which the first n places are in use: an entry is put in at one of
 // them or behind the last, or taken out, and the places past the list stay as they are. By hand, a column
-// and how many of its places are in use: so C lends them.
+// and how many of its places are in use, as `list` hands them on: C lends a count for both columns.
 ghost use Rattle.std.specs.Prelude.{◌≡◌, ◌≤◌, ◌<◌, length, take, insert, remove};
 ghost use Rattle.candidates.specs.Lists.{over};
 

@@ -10,8 +10,8 @@ use crate::list::ROOM;
 use numbers::refusal::Check;
 use std::marker::Model;
 
-// The first `count` places of either array are the candidates. By hand: a list takes fixed memory, and a Vec would
-// allocate.
+// The first `count` places of either array are the candidates. By hand: a list takes fixed memory, where a Vec would
+// allocate, and two arrays, since `list`'s functions go over the columns that C lends.
 #[derive(Drop)]
 pub struct List {
     count: usize,

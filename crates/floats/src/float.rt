@@ -83,7 +83,7 @@ pub fn is_finite(x: f64) -> bool
     x.is_finite()
 }
 
-// By hand, as `powi5` is: std's `powi` multiplies in a loop, by 1.0 first.
+// By hand, as `powi5` is: `v * v` is as plain as std's `powi`, which multiplies in a loop, by 1.0 first.
 #[tactic(auto, unfolding(crate::specs::Float::powi2))]
 pub fn powi2(v: f64) -> f64
     ensures { result ≡ powi2 v }

@@ -97,7 +97,8 @@ impl Operand {
         }
     }
 
-    // The whole root of m * 2 ^ 52, by its 53 binary digits, and the remainder.
+    // The whole root of m * 2 ^ 52, by its 53 binary digits, and the remainder. By index: a digit's two bits hang on its
+    // place.
     fn digits(self) -> RootRem
         ensures { result ≡ after 53 (self.m * 2 ^ 52) 53 }
     {

@@ -110,7 +110,8 @@ impl From<f64> for Complex {
     }
 }
 
-// By hand: std's traits are for one operator and one type of operand each.
+// By hand: std's traits are for one operator and one type of operand each, and the gate takes no impl by a macro of the
+// repository.
 impl Add for Complex {
     type Output = Complex;
 

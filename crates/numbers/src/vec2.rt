@@ -96,6 +96,7 @@ impl Neg for Vec2 {
     }
 }
 
+// By hand, as those of Vec3.
 impl Add for Vec2 {
     type Output = Vec2;
 

@@ -210,7 +210,8 @@ impl Neg for Vec3 {
     }
 }
 
-// By hand, part by part as lumo's macros write them: std's traits are for one operator and one type of operand each.
+// By hand, part by part as lumo's macros write them: std's traits are for one operator and one type of operand each, and
+// the gate takes no impl by a macro of the repository.
 impl Add for Vec3 {
     type Output = Vec3;
 

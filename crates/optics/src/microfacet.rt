@@ -601,8 +601,8 @@ fn f_on_glass(reading: Reading, spectra: &Spectra<'_>, wo: Vec3, wh: Vec3, lambd
     lambda.map(move |wl| reading.constants_at(spectra, wl).fresnel(cos_o))
 }
 
-// On metal, eta's entries being `step` apart. By hand beside `f_on_glass`: the two differ in what they know of the
-// spectra, and are a line each.
+// On metal, eta's entries being `step` apart. By hand beside `f_on_glass`, a line each: one over a closure that gives the
+// constants would be as long.
 #[tactic(auto, unfolding(crate::specs::SharedTerms::f_metal_from, crate::specs::Fresnel::f_at))]
 pub fn f_on_metal(step: f64, spectra: &Spectra<'_>, wo: Vec3, wh: Vec3, lambda: Color) -> Color
     ensures { result ≡ f_metal_from step spectra.now.eta spectra.now.k wo wh lambda }

@@ -123,7 +123,7 @@ impl Prepared<'_, '_> {
     }
 
     // The first `n` bounces. By hand, the place of each in the output: std says nothing of what a slice ends as behind
-    // `as_chunks_mut`.
+    // `as_chunks_mut`, and one chunk after the other by `split_first_chunk_mut` would be longer.
     fn run(&self, input: &[f64], output: &mut [f64], n: usize)
         requires { (27 * n ≤ length input.now) × (18 * n ≤ length output.old) }
         ensures { output.new ≡ all_bounced self.now.surface.now input.now n ++ drop (18 * n) output.old }

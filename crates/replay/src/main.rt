@@ -115,6 +115,7 @@ fn replay(rt: &impl Print, file: &mut File) -> io::Result<()> {
     let mut counts = Counts {
         rt,
         line: 0,
+        // of no record yet: it is never printed
         family: Family::Unknown(0),
         tally: Tally::default(),
     };

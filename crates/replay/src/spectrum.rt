@@ -19,7 +19,8 @@ fn by_turns(entries: &mut [f64], n: usize) {
     }
 }
 
-// Entries, of which the first `n` are the spectrum's. By hand: a replay takes fixed memory, and a Vec would allocate.
+// Entries, of which the first `n` are the spectrum's. By hand: a replay takes fixed memory, and a Vec would allocate; and
+// beside the program rays' own, since the two share no crate that knows a spectrum as it is read.
 #[derive(Clone, Copy)]
 struct Spectrum {
     entries: [f64; MOST],

@@ -45,7 +45,7 @@ impl<P: Print> fmt::Display for Counts<'_, P> {
     }
 }
 
-// The number of an answer. By hand: 0 is the record's word for accepted.
+// The number of an answer. By hand: 0 is the record's word for accepted, and rulvimba's own is of the library for C.
 fn number_of(check: Check) -> u64 {
     check.err().map_or(0, |why| why.number())
 }

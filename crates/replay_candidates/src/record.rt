@@ -41,7 +41,7 @@ fn candidate_of(text: &[u8]) -> Candidate
     }
 }
 
-// By hand: `From` takes one value, and this a letter of the record and what stands behind it.
+// By hand: a `From` of a pair, the letter and what stands behind it, would be no plainer.
 fn call_of(kind: u8, c: Candidate) -> Call {
     match kind {
         b'a' => Call::Arrival(c),

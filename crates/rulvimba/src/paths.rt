@@ -13,8 +13,8 @@ use path::bsdf;
 use path::plain::BounceResult;
 use path::records::{Bounce, Bounced, Path};
 
-// By hand beside `path::many`, which reads the same eight out of 27 numbers: one function for both would have to ask that
-// there are eight, and no public function asks.
+// By hand beside `path::many`, which reads its eight by their places: cut out of 27, they would be an Option whose other
+// case never comes.
 fn load(numbers: &[f64; 8]) -> Path
     ensures { result ≡ path_in numbers.now }
 {

@@ -99,6 +99,7 @@ impl<'a> Output<'a> {
         fmt::Write::write(self, value)
     }
 
+    // No clause, here and in `labelled`: std promises what was written only where it says that it was.
     pub fn decimal(&mut self, value: u64) {
         let _ = self.write_decimal(value);
     }

@@ -23,7 +23,8 @@ pub fn next<const N: usize, R: Read>(from: &mut R) -> Option<[u8; N]>
     Some(bytes)
 }
 
-// The next `N` bytes. Where fewer come, or a read fails, what is missing stays 0, which is no digit.
+// The next `N` bytes. Where fewer come, or a read fails, what is missing stays 0, which is no digit. No clause: std says
+// nothing of what a read that fails leaves.
 pub fn next_or_zeros<const N: usize, R: Read>(from: &mut R) -> [u8; N] {
     let mut bytes = [0; N];
     let _ = from.read_exact(&mut bytes);
