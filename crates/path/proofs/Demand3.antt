@@ -52,7 +52,7 @@ weight_of : (x : Float) → F64 x → T (is_filter x) → Weight x
 unfolding is_filter within
 weight_of x f t = record { fits_x = f; low = and_l (le f0 x) (le x f1) t; high = and_r (le f0 x) (le x f1) t }
 
-filters : (a : Color) → ColorF64 a → T (all4 is_filter a) → Weights4 a
+pub filters : (a : Color) → ColorF64 a → T (all4 is_filter a) → Weights4 a
 filters a f t =
     let h = each (is_filter a.s0) (is_filter a.s1) (is_filter a.s2) (is_filter a.s3) t in
     record {

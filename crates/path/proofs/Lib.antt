@@ -10,4 +10,6 @@ pub mod Demand3
 pub mod Air
 pub mod Answers
 pub mod Samples
+pub mod WallSamples
+pub mod AlongTheWall
 mod ManyBounces

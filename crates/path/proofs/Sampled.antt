@@ -30,10 +30,10 @@ use Rattle.optics.proofs.Outer.{outer_fit, index_in}
 use Rattle.path.specs.declared.records.Path.{Path}
 use Rattle.path.specs.declared.records.Bounce.{Bounce}
 use Rattle.path.specs.Path.{leading, terminate, is_path_lambda}
-use Rattle.path.specs.Bounce.{left_on_glass, left_on, lambda_on, local_wo, leading_index, facet_of, facet, fresnel_at, share, scatter_on, scatter, one_direction, shadowing, shadowing_on}
+use Rattle.path.specs.Bounce.{left_on_glass, left_on, lambda_on, local_wo, leading_index, facet_of, facet, fresnel_at, share, scatter_on, scatter, one_direction, along_wall, shadowing, shadowing_on}
 use Rattle.path.specs.Demand3.{ColorF64, StepF64}
 use Rattle.path.proofs.Checks.{Accepted}
-use Rattle.path.proofs.Weights.{Weight, whole}
+use Rattle.path.proofs.Weights.{Weight, none, whole}
 
 -- ---- the leading wavelength stays
 leading_left : (kind : Kind) (eta : List Float) (outside : Outside) (lambda : Color) → leading (left_on kind eta outside lambda) ≡ leading lambda
@@ -169,7 +169,7 @@ module _ (p : Path) (m : Microsurface) (b : Bounce) (h : Given p m b) where
   pub shadowing-weight : (wi : Vec3) (reflection : Bool) → scatter m (lambda_on m p.lambda) b ≡ scattered wi reflection
       → Weight (shadowing_on m (lambda_on m p.lambda) b wi)
   unfolding shadowing_on shadowing
-  shadowing-weight wi reflection t = go (one_direction m.kind m (lambda_on m p.lambda))
+  shadowing-weight wi reflection t = go (one_direction m.kind m (lambda_on m p.lambda)) (along_wall wi)
     where
       q : Float
       q = g_over_g1 m.roughness (local_wo b) wi (facet m (lambda_on m p.lambda) b)
@@ -177,6 +177,7 @@ module _ (p : Path) (m : Microsurface) (b : Bounce) (h : Given p m b) where
       s : T (finite q) × T (le f0 q) × T (le q f1)
       s = weight-share m.roughness (local_wo b) wi (facet m (lambda_on m p.lambda) b) rough (widen3 8 reach (local_wo b) (lit≤ tt) (local_span (local_wo b) local_wo_lem)) (direction_span wi reflection t)
 
-      go : (one : Bool) → Weight (cond one f1 q)
-      go true = whole
-      go false = record { fits_x = q-fits wi; low = s.1; high = s.2 }
+      go : (one wall : Bool) → Weight (cond one f1 (cond wall f0 q))
+      go true wall = whole
+      go false true = none
+      go false false = record { fits_x = q-fits wi; low = s.1; high = s.2 }

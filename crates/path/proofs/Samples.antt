@@ -50,17 +50,17 @@ abbrev l3 : Float
 l3 = grid.s3
 
 -- what is read of a spectrum is x at each of them
-record Reads (at : Float → Float) (x : Float) : Type 0 where
-  r0 : at l0 ≡ x
-  r1 : at l1 ≡ x
-  r2 : at l2 ≡ x
-  r3 : at l3 ≡ x
+pub record Reads (at : Float → Float) (x : Float) : Type 0 where
+  pub r0 : at l0 ≡ x
+  pub r1 : at l1 ≡ x
+  pub r2 : at l2 ≡ x
+  pub r3 : at l3 ≡ x
 
 reads_eta : (x : Float) → Reads (eta_at (constant x)) x
 unfolding eta_at eta_from step_of sample_one_at upper_point upper_lambda upper_weight ceiling interpolate add sub mul div lt eq of_int to_unsigned
 reads_eta x = record { r0 = refl; r1 = refl; r2 = refl; r3 = refl }
 
-reads_k : (x y : Float) → Reads (k_at (constant x) (constant y)) y
+pub reads_k : (x y : Float) → Reads (k_at (constant x) (constant y)) y
 unfolding k_at k_from step_of sample_one_at upper_point upper_lambda upper_weight ceiling interpolate add sub mul div lt eq of_int to_unsigned
 reads_k x y = record { r0 = refl; r1 = refl; r2 = refl; r3 = refl }
 
@@ -68,7 +68,7 @@ reads_k x y = record { r0 = refl; r1 = refl; r2 = refl; r3 = refl }
 abbrev f3 : Float
 f3 = fin false 3 (pos 0)
 
-abbrev ones : Outside
+abbrev pub ones : Outside
 ones = medium (constant f1)
 
 reads_index : Reads (index_on Glass (constant f3) ones) f3
@@ -76,7 +76,7 @@ unfolding index_on quotient outer_at eta_at eta_from is_constant every step_of s
 reads_index = record { r0 = refl; r1 = refl; r2 = refl; r3 = refl }
 
 -- ---- the checks
-every-replicate : (p : Float → Bool) (x : Float) → p x ≡ true → (n : ℕ) → every p (replicate n x) ≡ true
+pub every-replicate : (p : Float → Bool) (x : Float) → p x ≡ true → (n : ℕ) → every p (replicate n x) ≡ true
 unfolding every
 every-replicate p x h zero = refl
 every-replicate p x h (suc n) = rw (h, every-replicate p x h n)
@@ -101,7 +101,7 @@ spacing-holds : (x y : Float) → one_spacing (constant x) (constant y) ≡ true
 unfolding one_spacing
 spacing-holds x y = refl
 
-eta_holds_lem : (x : Float) → within eta_min eta_max x ≡ true → eta_holds (constant x) ≡ true
+pub eta_holds_lem : (x : Float) → within eta_min eta_max x ≡ true → eta_holds (constant x) ≡ true
 unfolding eta_holds all_within
 eta_holds_lem x h = rw (length-holds x, every-replicate (within eta_min eta_max) x h 95)
 
@@ -109,7 +109,7 @@ metal-k_holds : (x : Float) → k_holds Metal (constant x) (constant f2) ≡ tru
 unfolding k_holds k_entries_hold all_within within k_min decimal le
 metal-k_holds x = rw (length-holds f2, spacing-holds x f2, every-replicate (within k_min k_max) f2 refl 95, or-true)
 
-glass-k_holds : (x : Float) → k_holds Glass (constant x) (constant f0) ≡ true
+pub glass-k_holds : (x : Float) → k_holds Glass (constant x) (constant f0) ≡ true
 unfolding k_holds k_entries_hold all_zero all_within within le
 glass-k_holds x = rw (length-holds f0, spacing-holds x f0, every-replicate (within f0 f0) f0 refl 95)
 
@@ -117,11 +117,11 @@ metal-outer_holds : (eta : List Float) (outside : Outside) → outer_holds Metal
 unfolding outer_holds
 metal-outer_holds eta outside = refl
 
-glass-outer_holds : (x : Float) → outer_holds Glass (constant x) ones ≡ true
+pub glass-outer_holds : (x : Float) → outer_holds Glass (constant x) ones ≡ true
 unfolding outer_holds all_within within eta_min decimal le
 glass-outer_holds x = rw (length-holds f1, spacing-holds x f1, every-replicate (within eta_min eta_max) f1 refl 95)
 
-surface-holds :
+pub surface-holds :
     (m : Microsurface) → roughness_holds m.roughness ≡ true → eta_holds m.eta ≡ true → k_holds m.kind m.eta m.k ≡ true →
     outer_holds m.kind m.eta m.outside ≡ true → check_surface m ≡ accepted
 unfolding check_surface check_spectra

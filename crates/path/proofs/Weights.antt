@@ -66,28 +66,37 @@ filter-weight Metal reflection F ks tf f n x y = times ks (metal_share F) x (met
 filter-weight Glass true F ks tf f n x y = x
 filter-weight Glass false F ks tf f n x y = y
 
-pub weight_from_lem : (s : Scattered) (m : Microsurface) (lambda : Color) (b : Bounce) (wavelength ks tf : Float)
-    → ((wi : Vec3) (reflection : Bool) → s ≡ scattered wi reflection → Weight (shadowing_on m lambda b wi))
-    → Weight ks → Weight tf
-    → Weight (weight_from s m lambda b wavelength ks tf)
-unfolding weight_from weight fresnel_at
-weight_from_lem lost m lambda b wavelength ks tf q x y = none
-weight_from_lem totally m lambda b wavelength ks tf q x y = none
-weight_from_lem (scattered wi reflection) m lambda b wavelength ks tf q x y = go (eq wavelength terminated)
+-- the filter of the branch that was taken, on metal with its share of F, is a weight
+pub taken-weight : (m : Microsurface) (lambda : Color) (b : Bounce) (wavelength : Float) (reflection : Bool) (ks tf : Float) → Weight ks → Weight tf
+    → Weight (filter m.kind reflection (fresnel_at m lambda b wavelength) ks tf)
+unfolding fresnel_at
+taken-weight m lambda b wavelength reflection ks tf x y =
+    filter-weight m.kind reflection (fresnel_at m lambda b wavelength) ks tf (share-fits wo wh eta k) (fresnel_not_below wo wh eta k) x y
   where
+    wo : Vec3
+    wo = local_wo b
+
+    wh : Vec3
+    wh = facet m lambda b
+
     eta : Float
     eta = index_at m wavelength
 
     k : Float
     k = k_at m.eta m.k wavelength
 
+pub weight_from_lem : (s : Scattered) (m : Microsurface) (lambda : Color) (b : Bounce) (wavelength ks tf : Float)
+    → ((wi : Vec3) (reflection : Bool) → s ≡ scattered wi reflection → Weight (shadowing_on m lambda b wi))
+    → Weight ks → Weight tf
+    → Weight (weight_from s m lambda b wavelength ks tf)
+unfolding weight_from weight
+weight_from_lem lost m lambda b wavelength ks tf q x y = none
+weight_from_lem totally m lambda b wavelength ks tf q x y = none
+weight_from_lem (scattered wi reflection) m lambda b wavelength ks tf q x y = go (eq wavelength terminated)
+  where
     taken : Float
     taken = filter m.kind reflection (fresnel_at m lambda b wavelength) ks tf
 
-    taken-weight : Weight taken
-    taken-weight = filter-weight m.kind reflection (fresnel_at m lambda b wavelength) ks tf
-        (share-fits (local_wo b) (facet m lambda b) eta k) (fresnel_not_below (local_wo b) (facet m lambda b) eta k) x y
-
     go : (z : Bool) → Weight (cond z f0 (taken ⊗ shadowing_on m lambda b wi))
     go true = none
-    go false = times taken (shadowing_on m lambda b wi) taken-weight (q wi reflection refl)
+    go false = times taken (shadowing_on m lambda b wi) (taken-weight m lambda b wavelength reflection ks tf x y) (q wi reflection refl)

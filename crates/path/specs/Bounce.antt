@@ -3,7 +3,8 @@
 use Rattle.std.specs.Prelude.{is_nan, Float}
 use mathlib.Core.{Bool.Bool, Bool.cond, List.List}
 use Rattle.std.specs.Float.Ieee.{le, eq}
-use Rattle.floats.specs.Float.{◌⊗◌, f0, f1}
+use Rattle.floats.specs.Float.{◌⊗◌, f0, f1, is_infinite}
+use Rattle.numbers.specs.SphericalUtils.{tan2_theta}
 use Rattle.numbers.specs.Onb.{basis, to_local}
 use Rattle.numbers.specs.DenseSpectrum.{terminated}
 use Rattle.numbers.specs.declared.{vec2.Vec2.Vec2, vec3.Vec3.Vec3}
@@ -79,9 +80,13 @@ unfoldable pub scatter : Microsurface → Color → Bounce → Scattered
 scatter m lambda b = scatter_on m.kind m lambda b
 
 -- ---- the weight of a wavelength (ours)
--- q, the share of the light that the facets let through to wi: 1 where there is one direction only
+-- whether light leaves exactly along the wall: tan² of wi is infinite
+unfoldable pub along_wall : Vec3 → Bool
+along_wall wi = is_infinite (tan2_theta wi)
+
+-- q, the share of the light that the facets let through to wi: 1 where there is one direction only, else G/G1, but none along the wall: Λ is 0 there, and G/G1 would have the facets open (02 (v))
 unfoldable pub shadowing : Bool → Vec2 → Vec3 → Vec3 → Vec3 → Float
-shadowing one a wo wi wh = cond one f1 (g_over_g1 a wo wi wh)
+shadowing one a wo wi wh = cond one f1 (cond (along_wall wi) f0 (g_over_g1 a wo wi wh))
 
 -- delta, and glass whose index at the leading wavelength is 1.0
 unfoldable pub one_direction : Kind → Microsurface → Color → Bool

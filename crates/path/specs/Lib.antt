@@ -7,5 +7,6 @@ pub mod Plain
 pub mod Many
 pub mod Reckoning
 pub mod Demand3
+pub mod AlongTheWall
 pub mod Air
 pub mod Samples

@@ -5,8 +5,10 @@ ghost use Rattle.numbers.specs.Vec3.{dot};
 ghost use Rattle.optics.specs.Facets.{is_delta, lambda};
 ghost use Rattle.optics.specs.Bxdf.{is_smooth};
 ghost use Rattle.optics.specs.Density.{conductor_pdf, dielectric_pdf};
-ghost use Rattle.path.specs.Bounce.{shadowing};
+ghost use Rattle.path.specs.Bounce.{along_wall, shadowing};
 
+use floats::float;
+use numbers::spherical_utils;
 use numbers::vec3::Vec3;
 use optics::bxdf::{conductor, dielectric};
 use optics::microfacet::{Ggx, OpticalConstants, View};
@@ -50,13 +52,15 @@ impl Facet {
         Facet::new(mfd, dielectric::is_smooth(mfd, eta), wo, wh)
     }
 
-    // q: the share of the light that the facets let through to `wi`, and 1 where the surface scatters into one direction.
-    #[tactic(auto, using(optics::proofs::SharedTerms::g_over_g1_at_lem), unfolding(crate::specs::Bounce::shadowing))]
+    // q: the share of the light that the facets let through to `wi`: 1 where the surface scatters into one direction;
+    // elsewhere `g_over_g1`, but none along the wall, where Λ is 0 and that would have them open.
     fn shadowing(self, wi: Vec3) -> f64
         ensures { result ≡ shadowing self.view.one_direction self.view.mfd.roughness self.view.wo wi self.wh }
     {
         if self.view.one_direction {
             1.0
+        } else if is_along_wall(wi) {
+            0.0
         } else {
             self.view.g_over_g1(self.wo_dot_wh, wi, self.wh)
         }
@@ -84,4 +88,12 @@ impl Facet {
         let pdf = dielectric::pdf_at(self.view, wi, half, reflection, at, ratio);
         Seen { pdf, q }
     }
+}
+
+// Whether light leaves exactly along the wall: tan² of its angle is infinite.
+#[tactic(auto, unfolding(crate::specs::Bounce::along_wall))]
+fn is_along_wall(wi: Vec3) -> bool
+    ensures { result ≡ along_wall wi }
+{
+    float::is_infinite(spherical_utils::tan2_theta(wi))
 }
