@@ -1,6 +1,7 @@
 //! Answers that are written out from document 02 (i) and (iv), by neither the model nor its judge: the refusals of every
 //! pair of lengths about 95 and 471, and of an outer spectrum beside them, their order, the values of a known table, and
-//! known indices.
+//! known indices. And facet terms along the wall (02 (v)), of which that Λ is 0 and G is G1 follows from the document, and
+//! G1's digits are a figure of lumo's.
 use super::harness::{bits, get};
 use super::library::thin;
 use super::numbers::sample_one;
@@ -327,6 +328,24 @@ fn known_indices(t: &mut Tally) {
     }
 }
 
+/// Lambda is 0 along the wall, and so G is G1 there: only the weight takes q as 0 (wall.rs).
+fn facets_along_wall(t: &mut Tally) {
+    let (eta, k) = ([1.5; 95], [0.0; 95]);
+    let of = Spectra { eta: &eta, k: &k, outer: air(95) };
+    let s = rulvimba::Surface { kind: GLASS, roughness: rulvimba::Vec2 { x: 1.0, y: 1.0 } };
+    let wo = get(&[0.8, 0.0, 0.6]);
+    let wi = get(&[f64::from_bits(0xbff0000000000006), 0.0, 0.0]);
+    let wh = rulvimba::sample_normal(s, of, wo, 0.0, 1.0, 0.0).value;
+    for (call, here, written) in [
+        ("rulvimba_lambda", rulvimba::lambda(s, of, wi), 0),
+        ("rulvimba_g1", rulvimba::g1(s, of, wo, wh), 0x3fe7ffffffffffff),
+        ("rulvimba_g", rulvimba::g(s, of, wo, wi, wh), 0x3fe7ffffffffffff),
+    ] {
+        t.expect(|| format!("{call} along the wall, its number"), here.number, 0);
+        t.expect(|| format!("{call} along the wall"), bits(here.value), written);
+    }
+}
+
 /// Answers the number of differences.
 pub fn compare() -> usize {
     let mut t = Tally::default();
@@ -336,6 +355,7 @@ pub fn compare() -> usize {
     every_entry(&mut t);
     known_table(&mut t);
     known_indices(&mut t);
-    println!("{:<44} {:>9} answers {:>5} differences from those written out", "lengths of tables, known ones, known indices", t.answers, t.differences);
+    facets_along_wall(&mut t);
+    println!("{:<44} {:>9} answers {:>5} differences from those written out", "lengths, known tables, indices, facet terms", t.answers, t.differences);
     t.differences
 }

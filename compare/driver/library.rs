@@ -368,8 +368,8 @@ impl Subject for Library {
     }
 
     fn surfaces_end(&mut self, of: &[Lumo]) {
-        for which in 0..self.waiting.len() {
-            self.run_waiting(which, &of[which].surface);
+        for (which, l) in of.iter().enumerate().take(self.waiting.len()) {
+            self.run_waiting(which, &l.surface);
         }
     }
 }

@@ -25,6 +25,7 @@ mod root;
 mod rulvimba;
 mod spectra;
 mod surfaces;
+mod wall;
 
 use harness::Function;
 use judge::Tables;

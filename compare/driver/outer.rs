@@ -4,7 +4,7 @@ use super::inputs::Rng;
 use super::judge::Tables;
 use super::numbers::record;
 use super::optics::{self, is_writable, record_on, Color, Fields, Written};
-use super::path::{rust, sample_lists, surfaces, words_in, Bounce, Lumo, Path};
+use super::path::{plain_bounce, record_bounce, rust, sample_along_wall, sample_lists, surfaces, Bounce, Lumo, ON_GRID};
 use super::rulvimba::{GLASS, METAL};
 use super::spectra::{FINE_SAMPLES, SAMPLES};
 use super::surfaces::*;
@@ -67,12 +67,9 @@ impl Known<'_> {
     fn bounce(&mut self, of: &Fields, b: &Bounce, number: u64, left: [f64; 4]) {
         self.written.write(of.eta, of.k, of.outer, self.out);
         let lumo = Lumo::new(of.kind == GLASS, of.a, of.eta, of.k, of.outer);
-        let p = Path { lambda: Color([400.0, 500.0, 600.0, 700.0]), power: Color([1.0; 4]) };
-        let a = rust(&p, &lumo, b);
+        let a = rust(&ON_GRID, &lumo, b);
         assert!(a.number == number && a.path.lambda.0 == left, "a bounce that is not in air");
-        let mut ins = vec![of.kind as f64, of.a.x, of.a.y];
-        ins.extend(words_in(&p, b));
-        record(self.out, 990, &ins, &a.words());
+        record_bounce(self.out, &ON_GRID, &lumo.surface, b, &a);
     }
 }
 
@@ -115,8 +112,7 @@ fn known_calls(n: usize, known: &mut Known) {
 
 fn known_bounces(n: usize, known: &mut Known) {
     let [in_air, water, varying] = of_threes(n);
-    let ones = Color([1.0; 4]);
-    let b = Bounce { wo: Vec3::Z, normal: Vec3::Z, backface: false, u: 0.5, disk: 0.0, c: 1.0, s: 0.0, ks: ones, tf: ones };
+    let b = plain_bounce(Vec3::Z, 0.5, 0.0, 1.0, 0.0);
     let all = [400.0, 500.0, 600.0, 700.0];
     known.bounce(&water, &b, 0, all);
     // eta is constant and the outer spectrum isn't
@@ -145,6 +141,7 @@ pub fn sample(seed: u64) -> String {
             written.write(&s.eta, &s.k, &s.outer, out);
             true
         });
+        sample_along_wall(Tables::any_outer(n), &mut out, |s, out| written.write(&s.eta, &s.k, &s.outer, out));
     }
     out
 }

@@ -1,6 +1,6 @@
-//! A whole bounce by lumo's `BSDF::sample` and `BxDF::pdf`, with document 01's refusals, weights and shares written
-//! once more from the document; and lists of bounces on one path as inputs. judge.rs has what lumo's functions look up,
-//! library.rs what is held against the bounce.
+//! A whole bounce by lumo's `BSDF::sample` and `BxDF::pdf`, with document 01's refusals, weights and shares, and q as
+//! document 02 (v) mends it, written once more from the documents; and lists of bounces on one path as inputs. judge.rs
+//! has what lumo's functions look up, library.rs what is held against the bounce.
 use super::harness::*;
 use super::inputs::{near_unit, Rng};
 use super::judge::{Judge, Tables};
@@ -10,9 +10,12 @@ use super::optics::{caught, g_over_g1, Color, Written};
 pub use super::rulvimba::{LOST, PASSED, REFLECTED, REFUSED};
 use super::spectra::{self, FINE_SAMPLES};
 use super::surfaces::*;
+use super::wall;
+use crate::math::spherical_utils;
 use crate::stand_in::Random;
 use crate::tracer::bsdf::BSDF;
 use crate::tracer::bxdf::microfacet::util;
+use crate::tracer::microfacet::MfDistribution;
 use crate::tracer::onb::Onb;
 use crate::tracer::ColorWavelength;
 use crate::{Vec2, Vec3};
@@ -151,6 +154,19 @@ fn random_of(b: &Bounce) -> Random {
     Random { x: b.disk, y: 0.0, c: b.c, s: b.s }
 }
 
+/// q of documents 01 and 02 (v): 1 where there is one direction; else 0 where wi's tan² is infinite: lumo's `lambda` is 0
+/// there, so that its g over g1 need not be.
+#[inline]
+pub fn q(one_direction: bool, of: &MfDistribution, wo: Vec3, wi: Vec3, wh: Vec3) -> f64 {
+    if one_direction {
+        1.0
+    } else if spherical_utils::tan2_theta(wi).is_infinite() {
+        0.0
+    } else {
+        g_over_g1(of, wo, wi, wh)
+    }
+}
+
 /// A surface, and lumo's over it twice, where it has one: a `BSDF` hands out no `BxDF`.
 pub struct Lumo {
     pub surface: Surface,
@@ -220,7 +236,7 @@ fn judged(of: &impl Judge, world: Option<Vec3>, lambda: [f64; 4], p: &Path, b: &
     let density = handed_out(of.pdf_at(wo, wi, reflection, wl));
 
     // the weights
-    let q = if one_direction { 1.0 } else { g_over_g1(of.facets(), wo, wi, wh) };
+    let q = q(one_direction, of.facets(), wo, wi, wh);
     let weight = |i: usize| {
         let wl = left[i];
         if wl == 0.0 {
@@ -263,13 +279,31 @@ fn v(x: u64, y: u64, z: u64) -> Vec3 {
 
 const ONES: Color = Color([1.0; 4]);
 
-/// Surfaces of such spectra: the first are those of the samples of document 01 and of known edges, whose glass has the
-/// same index where it doesn't lie in air, both spectra being constant.
-pub fn surfaces(rng: &mut Rng, count: usize, tables: Tables) -> Vec<Lumo> {
-    let all = |x: f64| vec![x; tables.entries];
+/// The path of the lists with known edges, at wavelengths of the grid.
+pub const ON_GRID: Path = Path { lambda: Color([400.0, 500.0, 600.0, 700.0]), power: ONES };
+
+/// Metal of n 1, k 2.
+pub fn metal(tables: Tables, a: f64) -> Lumo {
+    let outer = if tables.outer { &[] } else { air(tables.entries) };
+    Lumo::new(false, Vec2::splat(a), &vec![1.0; tables.entries], &vec![2.0; tables.entries], outer)
+}
+
+/// Glass of a constant index, which is the same at the grid's wavelengths where it doesn't lie in air: both spectra are
+/// constant, and twice as large.
+pub fn glass(tables: Tables, a: f64, index: f64) -> Lumo {
     let by = if tables.outer { 2.0 } else { 1.0 };
-    let metal = |a: f64| Lumo::new(false, Vec2::splat(a), &all(1.0), &all(2.0), if tables.outer { &[] } else { air(tables.entries) });
-    let glass = |a: f64, index: f64| Lumo::new(true, Vec2::splat(a), &all(by * index), &all(0.0), &all(by));
+    let all = |x: f64| vec![x; tables.entries];
+    Lumo::new(true, Vec2::splat(a), &all(by * index), &all(0.0), &all(by))
+}
+
+/// A bounce about Z with filters of 1.
+pub fn plain_bounce(wo: Vec3, u: f64, disk: f64, c: f64, s: f64) -> Bounce {
+    Bounce { wo, normal: Vec3::Z, backface: false, u, disk, c, s, ks: ONES, tf: ONES }
+}
+
+/// Surfaces of such spectra: the first are those of the samples of document 01 and of known edges.
+pub fn surfaces(rng: &mut Rng, count: usize, tables: Tables) -> Vec<Lumo> {
+    let (metal, glass) = (|a| metal(tables, a), |a, index| glass(tables, a, index));
     let mut out = vec![metal(1e-5), glass(1e-5, 3.0), glass(1.0, 1f64.next_up()), glass(0.5, 0.75), metal(1.0)];
     while out.len() < count {
         let glass = rng.below(2) == 0 || tables.outer && rng.below(2) == 0;
@@ -285,7 +319,7 @@ pub fn surfaces(rng: &mut Rng, count: usize, tables: Tables) -> Vec<Lumo> {
 
 /// Bounces at known edges, each with the index of its surface.
 fn special(i: usize) -> Option<(usize, Bounce)> {
-    let plain = |wo, u, disk, c, s| Bounce { wo, normal: Vec3::Z, backface: false, u, disk, c, s, ks: ONES, tf: ONES };
+    let plain = plain_bounce;
     Some(match i {
         // metal, delta: powers 0.5, then 0.25
         0 | 1 => (0, plain(Vec3::Z, 0.0, 0.0, 1.0, 0.0)),
@@ -294,10 +328,10 @@ fn special(i: usize) -> Option<(usize, Bounce)> {
         3 => (1, plain(Vec3::Z, 0.25, 0.0, 1.0, 0.0)),
         // a density that isn't finite
         4 => (2, plain(v(0x3fea000000000000, 0, 0x3fe2a79e3a2cd2e6), 0.5, 0.0, 1.0, 0.0)),
-        // a passed direction whose z is 0, with q 1
-        5 => (3, plain(v(0x3fef169f5e2a60b5, 0x3f9080a621a05426, 0x3fce43c94cc41490), 1f64.next_down(), f64::from_bits(0x3fbd88ac158e3ce7), 0.0, -1.0)),
         // an infinite lambda
-        6 => (4, plain(v(0x3fe6a09efe58d70a, 0x3fe6a09efe58d70a, 0x1ff000000006c32e), 0.5, 0.5, 1.0, 0.0)),
+        5 => (4, plain(v(0x3fe6a09efe58d70a, 0x3fe6a09efe58d70a, 0x1ff000000006c32e), 0.5, 0.5, 1.0, 0.0)),
+        // a passed direction whose z is 0: along the wall. No power is left by now, so that q is seen in wall.rs, not here
+        6 => (3, plain(v(0x3fef169f5e2a60b5, 0x3f9080a621a05426, 0x3fce43c94cc41490), 1f64.next_down(), f64::from_bits(0x3fbd88ac158e3ce7), 0.0, -1.0)),
         // a filter of -0
         7 => (0, Bounce { ks: Color([-0.0, 1.0, -0.0, 0.5]), ..plain(Vec3::Z, 0.0, 0.0, 1.0, 0.0) }),
         8 => (1, Bounce { tf: Color([-0.0, 1.0, -0.0, 0.5]), ..plain(Vec3::Z, 0.9, 0.0, 1.0, 0.0) }),
@@ -437,6 +471,8 @@ pub struct Counts {
     not_finite: usize,
     /// After a direction, leading powers that are 0, and others.
     powers: [usize; 2],
+    /// Of the former, after a direction along a wall that was looked for.
+    walls: usize,
     /// Bounces with a NaN among the shares, the powers or the direction; and with shares outside 0 to 1, or whose sum isn't 1.
     nan: usize,
     shares: usize,
@@ -489,7 +525,10 @@ impl Counts {
             "  refused {} (by number {:?}), lost {} on metal and {} on glass, reflected {} by metal and {} by glass, passed {}",
             self.refused.iter().sum::<usize>(), &self.refused[1..], self.lost_metal, self.lost_glass, self.reflected[0], self.reflected[1], self.passed
         );
-        println!("  density not finite {}; leading power after a direction 0 {}, else {}", self.not_finite, self.powers[0], self.powers[1]);
+        println!(
+            "  density not finite {}; leading power after a direction 0 {}, of them along a wall that was looked for {}, else {}",
+            self.not_finite, self.powers[0], self.walls, self.powers[1]
+        );
         println!("  NaN among shares, powers and direction {}; shares outside 0 to 1 or not of sum 1 {}", self.nan, self.shares);
     }
 }
@@ -535,53 +574,88 @@ pub trait Subject {
     fn surfaces_end(&mut self, _of: &[Lumo]) {}
 }
 
+/// One bounce of a list, beside the driver's own answer.
+fn beside_judge<S: Subject>(c: &mut Counts, subject: &mut S, p: &Path, which: usize, l: &Lumo, b: &Bounce) -> Bounced {
+    let r = caught(|| rust(p, l, b));
+    let (a, words) = subject.bounce(p, which, l, b, r.as_ref());
+    if r.is_none_or(|r| r.words() != words) {
+        c.differences += 1;
+        if c.differences <= 3 {
+            report(S::NAME, p, l, b, &words, r.as_ref());
+        }
+    }
+    c.count(l, &a);
+    a
+}
+
+/// Light along the wall: the list that is written out, then lists of two bounces whose first was looked for.
+fn walk_along_walls<S: Subject>(seed: u64, tables: Tables, count: usize, c: &mut Counts, subject: &mut S) {
+    let rng = &mut Rng(seed ^ 0x3a11);
+    let (of, list) = wall::written(tables);
+    let mut p = ON_GRID;
+    for (which, (b, written)) in list.iter().enumerate() {
+        let a = beside_judge(c, subject, &p, which, &of[which], b);
+        if a.words() != written.words() {
+            c.differences += 1;
+            report("beside what is written out", &p, &of[which], b, &a.words(), Some(written));
+        }
+        p = a.path;
+    }
+    c.lists += 1;
+    subject.surfaces_end(&of);
+    for _ in 0..count {
+        let (of, bounces) = wall::found(rng, tables);
+        let mut p = ON_GRID;
+        for (which, b) in bounces.iter().enumerate() {
+            p = beside_judge(c, subject, &p, which, &of[which], b).path;
+        }
+        c.walls += 1;
+        c.lists += 1;
+        subject.surfaces_end(&of);
+    }
+}
+
 /// Lists of bounces on one path, `bounces` of them on surfaces of such spectra or a few more, each beside the driver's own
-/// answer; the first list has the known edges.
+/// answer; the first lists have the known edges.
 pub fn walk<S: Subject>(seed: u64, tables: Tables, bounces: usize, subject: &mut S) -> Counts {
     let n = tables.entries;
-    let rng = &mut Rng(seed ^ 0x9a7b);
     let mut c = Counts::default();
+    walk_along_walls(seed, tables, bounces / 2_500, &mut c, subject);
+    let walls = c.lists;
+    let rng = &mut Rng(seed ^ 0x9a7b);
     let mut of = surfaces(rng, 64, tables);
     while bounces > if n == FINE_SAMPLES { c.fine } else { c.bounces } {
+        let list = c.lists - walls;
         // other surfaces every so often
-        if c.lists % 256 == 255 {
+        if list % 256 == 255 {
             subject.surfaces_end(&of);
             of = surfaces(rng, 64, tables);
         }
         let mut p = start(rng, n);
-        if c.lists == 0 {
-            p = Path { lambda: Color([400.0, 500.0, 600.0, 700.0]), power: ONES };
+        if list == 0 {
+            p = ON_GRID;
         }
-        let length = if c.lists == 0 { 12 } else { 1 + rng.below(64) };
+        let length = if list == 0 { 12 } else { 1 + rng.below(64) };
         let mut on = None;
         for at in 0..length {
-            let (which, b) = match if c.lists == 0 { special(at) } else { None } {
+            let (which, b) = match if list == 0 { special(at) } else { None } {
                 Some(of) => of,
                 None => next_bounce(rng, &p, &of, on),
             };
-            let l = &of[which];
-            let r = caught(|| rust(&p, l, &b));
-            let (a, words) = subject.bounce(&p, which, l, &b, r.as_ref());
-            if r.is_none_or(|r| r.words() != words) {
-                c.differences += 1;
-                if c.differences <= 3 {
-                    report(S::NAME, &p, l, &b, &words, r.as_ref());
-                }
-            }
+            let a = beside_judge(&mut c, subject, &p, which, &of[which], &b);
             // document 01's own numbers
-            if c.lists == 0 && at < SAMPLES.len() {
+            if list == 0 && at < SAMPLES.len() {
                 let (case, density, power) = SAMPLES[at];
                 assert!(a.case == case && a.density.value == density && a.path.power.0[0] == power, "sample {at} of document 01");
             }
-            if c.lists == 0 && (at == 4 || at == 5) {
+            if list == 0 && (at == 4 || at == 6) {
                 let z = a.wi.z.to_bits();
                 assert!(a.case == PASSED && if at == 4 { !a.density.finite } else { z << 1 == 0 }, "edge {at}");
             }
-            c.count(l, &a);
             on = (a.case >= REFLECTED).then_some(-a.wi);
             p = a.path;
             // little is seen of a path without power
-            if c.lists > 0 && p.power.0[0] == 0.0 && rng.below(4) == 0 {
+            if list > 0 && p.power.0[0] == 0.0 && rng.below(4) == 0 {
                 break;
             }
         }
@@ -609,7 +683,15 @@ pub fn sample(seed: u64) -> String {
         written.write_in_air(&s.eta, &s.k, out);
         true
     });
+    sample_along_wall(Tables::in_air(spectra::SAMPLES), &mut out, |s, out| written.write_in_air(&s.eta, &s.k, out));
     out
+}
+
+/// The record of a bounce on a path.
+pub fn record_bounce(out: &mut String, p: &Path, s: &Surface, b: &Bounce, a: &Bounced) {
+    let mut ins = vec![s.glass as u8 as f64, s.a.x, s.a.y];
+    ins.extend(words_in(p, b));
+    record(out, 990, &ins, &a.words());
 }
 
 /// Records of so many lists of at most so many bounces, before each of which `spectra` writes those of its surface, or says
@@ -618,7 +700,7 @@ pub fn sample_lists(
     rng: &mut Rng, n: usize, of: &[Lumo], lists: usize, longest: usize, out: &mut String, mut spectra: impl FnMut(&Surface, &mut String) -> bool,
 ) {
     for list in 0..lists {
-        let mut p = if list == 0 { Path { lambda: Color([400.0, 500.0, 600.0, 700.0]), power: ONES } } else { start(rng, n) };
+        let mut p = if list == 0 { ON_GRID } else { start(rng, n) };
         let length = if list == 0 { 11 } else { 1 + rng.below(longest) };
         let mut on = None;
         // a list has two surfaces of its own, so that few spectra are written
@@ -637,12 +719,21 @@ pub fn sample_lists(
                 continue;
             }
             let a = rust(&p, &of[which], &b);
-            let mut ins = vec![s.glass as u8 as f64, s.a.x, s.a.y];
-            ins.extend(words_in(&p, &b));
-            record(out, 990, &ins, &a.words());
+            record_bounce(out, &p, s, &b, &a);
             on = (a.case >= REFLECTED).then_some(-a.wi);
             p = a.path;
         }
+    }
+}
+
+/// Records of the list along the wall, likewise.
+pub fn sample_along_wall(tables: Tables, out: &mut String, mut spectra: impl FnMut(&Surface, &mut String)) {
+    let (of, list) = wall::written(tables);
+    let mut p = ON_GRID;
+    for (Lumo { surface, .. }, (b, written)) in of.iter().zip(&list) {
+        spectra(surface, out);
+        record_bounce(out, &p, surface, b, written);
+        p = written.path;
     }
 }
 
@@ -742,7 +833,7 @@ fn plain_on(of: &impl Judge, constant: bool, p: Path, b: Bounce) -> Bounced {
         return lost(&lambda, shares);
     };
     let density = handed_out(of.pdf_at(wo, wi, reflection, lambda.lambda[0]));
-    let q = if one_direction { 1.0 } else { g_over_g1(of_facets, wo, wi, wh) };
+    let q = q(one_direction, of_facets, wo, wi, wh);
     let filter = if reflection { &b.ks } else { &b.tf };
     let mut power = [0.0; 4];
     for i in 0..4 {
