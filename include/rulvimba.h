@@ -40,8 +40,8 @@
 #ifndef RULVIMBA_H
 #define RULVIMBA_H
 
-/* Raised with each change of a call, a struct or a number. */
-#define RULVIMBA_VERSION 3
+/* Raised with each change of a call, of what it answers, of a struct or of a number. */
+#define RULVIMBA_VERSION 4
 
 #include <stdbool.h>
 #include <stddef.h>
@@ -176,7 +176,10 @@ uint64_t rulvimba_start(rulvimba_path *path, rulvimba_color lambda);
  * fourth); 10 a power outside 0 to 1; 5 wo, then the normal; 6 u, then disk; 7 c and s; 8 ks, then tf;
  * and *path is as it was. Otherwise *path holds the path after the bounce: on glass, unless eta is the same
  * throughout and outer is too, wavelengths two to four are 0; each power is what it was times the weight at its
- * wavelength, and 0 if the light is lost.
+ * wavelength, and 0 if the light is lost. Each power is 0 also where a surface that has a density per steradian sends
+ * the light exactly along itself: wi's z along the normal, before wi is turned into world space, is 0, or in size so
+ * small (at most 2^-512, some 7.5e-155) that the square of its angle's tangent is infinite. Such a bounce is reported
+ * as any other, with its direction, density and shares.
  */
 rulvimba_bounce_result rulvimba_bounce(rulvimba_path *path, rulvimba_surface surface, const double *eta, size_t eta_len,
                                        const double *k, size_t k_len, const double *outer, size_t outer_len,
@@ -212,7 +215,9 @@ size_t rulvimba_bounces(rulvimba_surface surface, const double *eta, size_t eta_
  */
 rulvimba_float_result rulvimba_lookup(const double *values, size_t values_len, double lambda);
 
-/* Facet terms: Lambda, the shadowing of one and of two directions, and the density of facet normals.
+/* Facet terms: Lambda, the shadowing of one and of two directions, and the density of facet normals. Lambda of a
+ * direction exactly along the surface is 0, as if nothing shadowed it; G and G1 read it so, and a bounce's weight does
+ * not (rulvimba_bounce).
  * Refused: the surface; 5 a direction. */
 rulvimba_float_result rulvimba_lambda(rulvimba_surface surface, const double *eta, size_t eta_len, const double *k,
                                       size_t k_len, const double *outer, size_t outer_len, rulvimba_vec3 w);
