@@ -1,11 +1,10 @@
 -- Light that leaves exactly along the wall (`along_the_wall` proves `AlongTheWall` of specs/AlongTheWall.antt). q is by its definition; a filter from 0 to 1
 -- times a q of 0 is from 0 to 0 (`Dark`), and so is a power times that weight.
-use Rattle.std.proofs.Common.{◌≡◌, Bool, true, false, cond, ◌||◌, ◌&&◌, ◌⊎◌, inl, inr, T, sym, subst, ℕ, ◌*◌, zero-le, not-le_of_lt, eqb, eqb→eq, ltb, ltb→lt, arith, pos}
-use lib.Ieee.Fits.{and_l}
-use lib.Ieee.{Float, nan, inf, fin, binary64, up, down, below, level, lt, le, eq}
+use Rattle.std.proofs.Common.{◌≡◌, Bool, true, false, cond, ◌⊎◌, inl, inr, T}
+use lib.Ieee.{Float, binary64, lt, le, eq}
 use Rattle.floats.specs.Float.{◌⊗◌, f0}
 use Rattle.floats.proofs.Rounding.Units.{product_comm}
-use Rattle.floats.proofs.Rounding.Monotone.{le_trans-fits}
+use Rattle.std.proofs.lemmas.Float.{lt-or-eq, lt_irrefl, lt_of_lt_of_le, le_trans}
 use Rattle.numbers.specs.DenseSpectrum.{terminated}
 use Rattle.numbers.specs.declared.vec3.Vec3.{Vec3}
 use Rattle.numbers.specs.Refusal.{accepted}
@@ -50,40 +49,16 @@ darkened p w a d =
     let h = weighed_down w p d.weight_x a in
     rw (product_comm binary64 p w) (record {
       weight_x = h.0;
-      high = le_trans-fits (w ⊗ p) w f0 h.0.fits_x d.weight_x.fits_x none.fits_x h.1 d.high;
+      high = le_trans (w ⊗ p) w f0 h.1 d.high;
     })
-
-null : (a b : ℕ) → 0 * a * b ≡ 0
-null a b = omega arith
-
-either_of : (x y : Bool) → T (x || y) → T x ⊎ T y
-either_of true y t = inl tt
-either_of false y t = inr t
-
-level_zero : (s : Bool) (a : ℕ) → T (below s a false 0 || level s a false 0) → T (below false 0 s a || level false 0 s a) → T (level s a false 0)
-level_zero false a h l = subst (λ (z : ℕ). T (level false z false 0)) (sym (go (either_of (ltb a 0) (eqb a 0 && true) h))) tt
-  where
-    go : T (ltb a 0) ⊎ T (eqb a 0 && true) → a ≡ 0
-    go (inl t) = absurd (not-le_of_lt (ltb→lt a 0 t) zero-le)
-    go (inr t) = eqb→eq a 0 (and_l (eqb a 0) true t)
-level_zero true a h l = subst (λ (z : ℕ). T (level true z false 0)) (eqb→eq 0 a (and_l (eqb 0 a) (false || eqb 0 0) l)) tt
 
 -- it equals 0
 dark_zero : (x : Float) → Dark x → Zero x
-unfolding le lt eq
-dark_zero nan d = absurd d.high
-dark_zero (inf false) d = absurd d.high
-dark_zero (inf true) d = absurd d.weight_x.low
-dark_zero (fin s m e) d =
-    subst (λ (z : ℕ). T (level s a false z)) (sym zero_units)
-    (level_zero s a (subst (λ (z : ℕ). T (below s a false z || level s a false z)) zero_units d.high)
-    (subst (λ (z : ℕ). T (below false z s a || level false z s a)) zero_units d.weight_x.low))
+dark_zero x d = go (lt-or-eq x f0 d.high)
   where
-    a : ℕ
-    a = m * up e * down (pos 0)
-
-    zero_units : 0 * up (pos 0) * down e ≡ 0
-    zero_units = null (up (pos 0)) (down e)
+    go : T (lt x f0) ⊎ T (eq x f0) → T (eq x f0)
+    go (inl less) = absurd (lt_irrefl x (lt_of_lt_of_le x f0 x less d.weight_x.low))
+    go (inr same) = same
 
 -- ---- the weights where q is 0
 dark_weight : (wavelength taken : Float) → Weight taken → Dark (weight wavelength taken f0)
