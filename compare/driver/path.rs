@@ -157,7 +157,7 @@ fn random_of(b: &Bounce) -> Random {
 /// q of documents 01 and 02 (v): 1 where there is one direction; else 0 where wi's tan² is infinite: lumo's `lambda` is 0
 /// there, so that its g over g1 need not be.
 #[inline]
-pub fn q(one_direction: bool, of: &MfDistribution, wo: Vec3, wi: Vec3, wh: Vec3) -> f64 {
+fn q(one_direction: bool, of: &MfDistribution, wo: Vec3, wi: Vec3, wh: Vec3) -> f64 {
     if one_direction {
         1.0
     } else if spherical_utils::tan2_theta(wi).is_infinite() {
@@ -273,7 +273,8 @@ fn kept(number: u64, p: Path) -> Bounced {
 
 // ---- inputs
 
-fn v(x: u64, y: u64, z: u64) -> Vec3 {
+/// A vector by its bits.
+pub fn v(x: u64, y: u64, z: u64) -> Vec3 {
     Vec3::new(f64::from_bits(x), f64::from_bits(y), f64::from_bits(z))
 }
 

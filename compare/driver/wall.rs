@@ -11,10 +11,6 @@ use crate::stand_in::Random;
 use crate::tracer::onb::Onb;
 use crate::Vec3;
 
-fn v(x: u64, y: u64, z: u64) -> Vec3 {
-    Vec3::new(f64::from_bits(x), f64::from_bits(y), f64::from_bits(z))
-}
-
 /// A z at which tan² is infinite, and the index at which the facet of the list passes light along the wall.
 const ALONG: f64 = 1e-160;
 const INDEX: f64 = f64::from_bits(0x3fd11d774b3e27cb);

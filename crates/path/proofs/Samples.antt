@@ -64,19 +64,20 @@ pub reads_k : (x y : Float) → Reads (k_at (constant x) (constant y)) y
 unfolding k_at k_from step_of sample_one_at upper_point upper_lambda upper_weight ceiling interpolate add sub mul div lt eq of_int to_unsigned
 reads_k x y = record { r0 = refl; r1 = refl; r2 = refl; r3 = refl }
 
--- the samples' glass has eta 3, and a spectrum of ones outside: its index, eta divided by that, is eta
+-- the samples' glass has eta 3
 abbrev f3 : Float
 f3 = fin false 3 (pos 0)
 
+-- and a spectrum of ones outside: the index, eta divided by that, is eta
 abbrev pub ones : Outside
 ones = medium (constant f1)
 
-reads_index : Reads (index_on Glass (constant f3) ones) f3
+pub reads_index : (x : Float) → div binary64 x f1 ≡ x → Reads (index_on Glass (constant x) ones) x
 unfolding index_on quotient outer_at eta_at eta_from is_constant every step_of sample_one_at upper_point upper_lambda upper_weight ceiling interpolate add sub mul div lt eq of_int to_unsigned
-reads_index = record { r0 = refl; r1 = refl; r2 = refl; r3 = refl }
+reads_index x h = record { r0 = h; r1 = h; r2 = h; r3 = h }
 
 -- ---- the checks
-pub every-replicate : (p : Float → Bool) (x : Float) → p x ≡ true → (n : ℕ) → every p (replicate n x) ≡ true
+every-replicate : (p : Float → Bool) (x : Float) → p x ≡ true → (n : ℕ) → every p (replicate n x) ≡ true
 unfolding every
 every-replicate p x h zero = refl
 every-replicate p x h (suc n) = rw (h, every-replicate p x h n)
@@ -343,9 +344,9 @@ glass_accepted u r =
     checks delta_glass f1 u
     (surface-holds delta_glass smooth-holds (eta_holds_lem f3 refl) (glass-k_holds f3) (glass-outer_holds f3)) refl r
 
-glass-constant : constant_eta (constant f3) ones ≡ true
+pub glass-constant : (x : Float) → eq x x ≡ true → constant_eta (constant x) ones ≡ true
 unfolding constant_eta is_constant eq
-glass-constant = rw (every-replicate (eq f3) f3 refl 95, every-replicate (eq f1) f1 refl 95)
+glass-constant x h = rw (every-replicate (eq x) x h 95, every-replicate (eq f1) f1 refl 95)
 
 once : bounce (path grid (all f1)) delta_metal (along f0) ≡ reflected Z (Some f1) None (path grid (all half))
 unfolding surface is_power within le mul
@@ -363,19 +364,19 @@ abbrev u0 : Float
 u0 = decimal 2 10
 
 reflects-u0 : bounce (path grid (all f1)) delta_glass (along u0) ≡ reflected Z (Some quarter) (Some (two_shares quarter three_quarters)) (path grid (all f1))
-unfolding surface branch_of is_finite is_random decimal lt le
+unfolding surface branch_of is_finite is_random decimal lt le eq div
 reflects-u0 =
-    glass-bounce smooth (constant f3) (constant f0) ones smooth_delta glass-constant reads_index (reads_k f3 f0)
+    glass-bounce smooth (constant f3) (constant f0) ones smooth_delta (glass-constant f3 refl) (reads_index f3 refl) (reads_k f3 f0)
     u0 quarter Z Z true (glass_accepted u0 refl)
-    (glass_reflects smooth (constant f3) (constant f0) ones smooth_delta glass-constant reads_index (reads_k f3 f0))
+    (glass_reflects smooth (constant f3) (constant f0) ones smooth_delta (glass-constant f3 refl) (reads_index f3 refl) (reads_k f3 f0))
     world_Z (reflected-density smooth smooth_delta) refl
 
 passes_quarter : bounce (path grid (all f1)) delta_glass (along quarter) ≡ passed (vec3 f0 f0 f_1) (Some three_quarters) (Some (two_shares quarter three_quarters)) (path grid (all f1))
-unfolding surface branch_of is_finite is_random lt le
+unfolding surface branch_of is_finite is_random lt le eq div
 passes_quarter =
-    glass-bounce smooth (constant f3) (constant f0) ones smooth_delta glass-constant reads_index (reads_k f3 f0)
+    glass-bounce smooth (constant f3) (constant f0) ones smooth_delta (glass-constant f3 refl) (reads_index f3 refl) (reads_k f3 f0)
     quarter three_quarters -Z (vec3 f0 f0 f_1) false (glass_accepted quarter refl)
-    (glass_passes smooth (constant f3) (constant f0) ones smooth_delta glass-constant reads_index (reads_k f3 f0))
+    (glass_passes smooth (constant f3) (constant f0) ones smooth_delta (glass-constant f3 refl) (reads_index f3 refl) (reads_k f3 f0))
     world--Z (passed-density smooth smooth_delta) refl
 
 bounces : Samples

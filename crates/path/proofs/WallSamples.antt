@@ -1,7 +1,7 @@
 -- Known values of light that leaves exactly along the wall (`wall_samples` proves `WallSamples` of specs/AlongTheWall.antt), and of a whole bounce by stages: each leaf
 -- (local wo, the index, the facet's normal, F, the bent direction, the density) is computed from its definition, and `rw` puts them together.
 use Rattle.std.proofs.Common.{◌≡◌, Some, true, false, refl, negsuc}
-use lib.Ieee.{Float, fin, add, sub, mul, div, neg, lt, le, eq, is_nan, of_int, to_unsigned}
+use lib.Ieee.{Float, fin, add, sub, mul, div, neg, lt, le, eq, is_nan}
 use Rattle.floats.specs.Float.{f0, f1, decimal, epsilon, within, max, abs, clamp, sign_bit, signum, is_infinite, is_finite, powi2}
 use Rattle.floats.specs.SquareRoot.{square_root}
 use Rattle.numbers.specs.Vec2.{splat}
@@ -9,11 +9,11 @@ use Rattle.numbers.specs.Vec3.{vec3, X, Z, dot, float_mul, div_float, negate, cr
 use Rattle.numbers.specs.Vec3 as V3
 use Rattle.numbers.specs.Onb.{slope, skew, basis, to_local, to_world}
 use Rattle.numbers.specs.SphericalUtils.{cos_theta, cos2_theta, sin2_theta, tan2_theta, sin_theta, cos_phi, sin_phi, same_hemisphere}
-use Rattle.numbers.specs.DenseSpectrum.{step_of, ceiling, upper_point, upper_lambda, upper_weight, interpolate, sample_one_at, every, is_constant, is_wavelength, is_lookup_wavelength}
+use Rattle.numbers.specs.DenseSpectrum.{is_wavelength, is_lookup_wavelength}
 use Rattle.numbers.specs.declared.vec3.Vec3.{Vec3}
 use Rattle.numbers.specs.Refusal.{accepted}
 use Rattle.numbers.specs.Checked.{check_direction}
-use Rattle.optics.specs.Surface.{roughness_min, is_roughness, roughness_holds, eta_min, eta_from, eta_at, outer_at, quotient, index_on, index_at, constant_eta, surface}
+use Rattle.optics.specs.Surface.{roughness_min, is_roughness, roughness_holds, eta_min, index_on, index_at, constant_eta, surface}
 use Rattle.optics.specs.Facets.{half, is_delta, alpha2, lambda, lambda_of, chi_pass, masked, g1, g, g_over_g1, cos4_theta, slope_squared, d, sample_normal_pdf}
 use Rattle.optics.specs.Fresnel.{index_from, sin2_i, is_total, cos_i, contrast, mean_square, unpolarized, fr_facing, fr_real, fresnel, f_at}
 use Rattle.optics.specs.Sampler.{stretched, upright, viewed, tangent, lerp, disk_x, disk_h, disk_y, disk_z, on_hemisphere, combined, unstretched, sample_normal}
@@ -22,28 +22,26 @@ use Rattle.optics.specs.Density.{on_z_side, bent_pdf, eta_ratio, dielectric_half
 use Rattle.optics.specs.Check.{check_surface, is_random, check_random, is_circle_pair, check_circle_pair}
 use Rattle.optics.specs.Samples.{rough, w}
 use Rattle.optics.specs.declared.microfacet.Kind.TheVariants.{Glass}
+use Rattle.optics.proofs.Samples as Optics
 use Rattle.path.specs.Path.{path, leading, is_path_lambda, is_power, is_filter, weighed}
 use Rattle.path.specs.Bounce.{advanced, check_bounce, check_rest, left_on_glass, left_on, lambda_on, local_wo, leading_index, facet_of, facet, fresnel_at, share, scatter_on, scatter, along_wall, one_direction, shadowing, shadowing_on, filter, weight, weight_from, weights_from, weights}
 use Rattle.path.specs.Answer.{two_shares, passed, density_of, density, shares_on, shares, branch_of, worked, on_surface, answered, bounce}
 use Rattle.path.specs.Samples.{all, grid, constant}
 use Rattle.path.specs.AlongTheWall.{wall_index, wall_glass, aslant, WallSamples}
-use Rattle.path.proofs.Samples.{Reads, reads_k, ones, every-replicate, eta_holds_lem, glass-k_holds, glass-outer_holds, surface-holds}
+use Rattle.path.proofs.Samples.{Reads, reads_k, ones, reads_index, glass-constant, eta_holds_lem, glass-k_holds, glass-outer_holds, surface-holds}
 
 -- ---- along X, at roughness 1
-two_thirds : Float
-two_thirds = fin false 6004799503160661 (negsuc 52)
+lambda_x : lambda rough X ≡ f0
+unfolding lambda is_infinite tan2_theta sin2_theta cos2_theta max is_nan sub mul div lt
+lambda_x = refl
 
-g_open : g rough w X Z ≡ two_thirds
-unfolding two_thirds add sub mul div neg lt le eq is_nan decimal epsilon max clamp sign_bit signum is_infinite powi2 square_root dot cos_theta cos2_theta sin2_theta tan2_theta sin_theta cos_phi sin_phi alpha2 lambda lambda_of chi_pass masked g
-g_open = refl
+front : chi_pass w Z ≡ true
+unfolding chi_pass signum sign_bit cos_theta dot epsilon decimal is_nan square_root add mul lt
+front = refl
 
-g1_open : g1 rough w Z ≡ two_thirds
-unfolding two_thirds add sub mul div neg lt le eq is_nan decimal epsilon max clamp sign_bit signum is_infinite powi2 square_root dot cos_theta cos2_theta sin2_theta tan2_theta sin_theta cos_phi sin_phi alpha2 lambda lambda_of chi_pass masked g1
-g1_open = refl
-
-open_lem : g_over_g1 rough w X Z ≡ f1
-unfolding g_over_g1 two_thirds eq div
-open_lem = rw (g_open, g1_open)
+quotient_lem : g_over_g1 rough w X Z ≡ f1
+unfolding g_over_g1 g g1 masked add div eq
+quotient_lem = rw (front, (Optics.samples).lambda_w, lambda_x)
 
 shadowed : shadowing false rough w X Z ≡ f0
 unfolding shadowing along_wall is_infinite tan2_theta sin2_theta cos2_theta max is_nan sub mul div lt
@@ -117,13 +115,13 @@ density_is : dielectric_pdf (splat f1) wall_index f0 false wo wi ≡ D
 unfolding wo wi D dielectric_pdf dielectric_pdf_from eta_ratio dielectric_half on_z_side is_discarded passed_pdf bent_pdf rest f_at fresnel fr_real fr_facing index_from sin2_i is_total cos_i unpolarized mean_square contrast sample_normal_pdf g1 masked chi_pass lambda lambda_of alpha2 d cos4_theta slope_squared is_smooth is_delta cos_theta cos2_theta sin2_theta tan2_theta sin_theta cos_phi sin_phi powi2 clamp signum sign_bit is_infinite normalize length length_squared dot div_float negate V3.add epsilon decimal max abs is_nan square_root add sub mul div neg lt le eq
 density_is = refl
 
-reads_index : Reads (index_on Glass (constant wall_index) ones) wall_index
-unfolding index_on quotient outer_at eta_at eta_from is_constant every step_of sample_one_at upper_point upper_lambda upper_weight ceiling interpolate add sub mul div lt eq of_int to_unsigned
-reads_index = record { r0 = refl; r1 = refl; r2 = refl; r3 = refl }
+index_reads : Reads (index_on Glass (constant wall_index) ones) wall_index
+unfolding div
+index_reads = reads_index wall_index refl
 
 constant-holds : constant_eta (constant wall_index) ones ≡ true
-unfolding constant_eta is_constant eq
-constant-holds = rw (every-replicate (eq wall_index) wall_index refl 95, every-replicate (eq f1) f1 refl 95)
+unfolding eq
+constant-holds = glass-constant wall_index refl
 
 -- ---- and its stages
 rough-holds : roughness_holds (splat (max f1 roughness_min)) ≡ true
@@ -149,7 +147,7 @@ lambda_is = rw (constant-holds)
 
 index_is : leading_index wall_glass grid ≡ wall_index
 unfolding leading_index leading index_at surface
-index_is = reads_index.r0
+index_is = index_reads.r0
 
 facet_is : facet wall_glass grid aslant ≡ wh
 unfolding facet facet_of dielectric_normal surface
@@ -157,7 +155,7 @@ facet_is = rw (index_is, local, raised, smooth-not, normal)
 
 share_on : share wall_glass grid aslant ≡ F
 unfolding share fresnel_at leading index_at surface
-share_on = rw (local, facet_is, reads_index.r0, (reads_k wall_index f0).r0, share_is)
+share_on = rw (local, facet_is, index_reads.r0, (reads_k wall_index f0).r0, share_is)
 
 scatter_is : scatter wall_glass grid aslant ≡ scattered wi false
 unfolding scatter scatter_on dielectric_from branch surface
@@ -181,7 +179,7 @@ given = refl
 
 density_on : density wall_glass grid aslant wi false ≡ Some D
 unfolding density pdf pdf_of leading index_at surface
-density_on = rw (raised, local, reads_index.r0, (reads_k wall_index f0).r0, density_is, given)
+density_on = rw (raised, local, index_reads.r0, (reads_k wall_index f0).r0, density_is, given)
 
 shares_are : shares wall_glass grid aslant ≡ Some (two_shares F R)
 unfolding shares shares_on surface
@@ -197,4 +195,4 @@ dark = rw (bounce_accepted, lambda_is, scatter_is, dark_weights, powers_are, den
 
 pub wall_samples : WallSamples
 unfolding wi D F R
-wall_samples = record { quotient = open_lem; shadowed = shadowed; last = last; next = next; dark = dark }
+wall_samples = record { quotient = quotient_lem; shadowed = shadowed; last = last; next = next; dark = dark }
