@@ -7,10 +7,10 @@ use Rattle.std.specs.List.{position, position_or_len, take-map}
 use Rattle.std.proofs.lemmas.List.Edits.{length-insert, length-remove}
 use Rattle.std.proofs.lemmas.List.Sums.{prefix_len-le-length}
 use Rattle.floats.proofs.Rounding.{below_or_from}
-use Rattle.numbers.specs.Refusal.{accepted, rejected}
-use Rattle.candidates.specs.Lists.{over}
+use Rattle.numbers.specs.Refusal.{accepted, rejected, unless_refused}
+use Rattle.numbers.specs.Written.{over}
 use Rattle.candidates.specs.Candidate.{Candidate, goes_before, is_id, has_id}
-use Rattle.candidates.specs.Memory.{Memory, memory, rows, Sized, listed, listed_ids, column_over, holding, Call, arrival, departure, check, insert, remove, changed, answer, unless_refused, left}
+use Rattle.candidates.specs.Memory.{Memory, memory, rows, Sized, listed, listed_ids, column_over, holding, Call, arrival, departure, check, insert, remove, changed, answer, left}
 use Rattle.candidates.proofs.Lists.{map-insert, map-remove, first_map}
 use Rattle.candidates.proofs.Ids.{among_found, among_missed}
 use Rattle.candidates.proofs.Passed.{passed}

@@ -6,10 +6,10 @@ use mathlib.Core.Path.{◌≡◌, refl, sym, ap, ◌∙◌}
 use mathlib.Core.List.Permᴰ
 use mathlib.Core.List.{List, [], ◌∷◌, map, map-map, Permᴰ}
 use lib.ListN.{length, length-map}
-use Rattle.numbers.specs.Refusal.{Verdict, accepted, rejected}
+use Rattle.numbers.specs.Refusal.{Verdict, accepted, rejected, unless_refused}
 use Rattle.candidates.specs.Candidate.{Candidate, CandidateF64}
 use Rattle.candidates.specs.Memory.{Memory, Sized, listed, holding, Call, arrival, departure, insert, remove, changed}
-use Rattle.candidates.specs.Memory.{answer, unless_refused, left}
+use Rattle.candidates.specs.Memory.{answer, left}
 use Rattle.candidates.specs.Current.{Present, settle, others, accept, after, Every, Pairwise, Current, CallF64, Throughout, Empty, KeptCurrent}
 use Rattle.candidates.proofs.Rows.{listed-ids, listed-laid, listed-holding, count-holding, sized-holding}
 use Rattle.candidates.proofs.Passed.{passed}

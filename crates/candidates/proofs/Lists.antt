@@ -10,7 +10,7 @@ use lib.ListN.{length, take, drop, set, length-take, length-drop}
 use lib.Seq.{take-take}
 use borrow.Rule.Slice.PartMut.{put_mid}
 use Rattle.std.specs.List.{position_or_len, copy_within, insert, remove}
-use Rattle.candidates.specs.Lists.{over}
+use Rattle.numbers.specs.Written.{over}
 
 pub first_map : {A B : Type 0} (p : B → Bool) (f : A → B) (xs : List A) → position_or_len p (map f xs) ≡ position_or_len (λ x. p (f x)) xs
 first_map p f [] = refl

@@ -6,7 +6,7 @@ use lib.ListN.{length, take, drop, length-append, length-map, length-drop}
 use lib.Seq.{take-append_seam}
 use lib.Ieee.{Float}
 use Rattle.std.specs.List.{take-map}
-use Rattle.candidates.specs.Lists.{over}
+use Rattle.numbers.specs.Written.{over}
 use Rattle.candidates.specs.Candidate.{Candidate}
 use Rattle.candidates.specs.Memory.{Memory, Sized, Laid, rows, listed, listed_ids, holding}
 

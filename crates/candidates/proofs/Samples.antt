@@ -2,9 +2,10 @@
 use mathlib.Core.Path.{refl}
 use lib.Ieee.{lt, le, eq, neg}
 use Rattle.floats.specs.Float.{is_finite}
-use Rattle.candidates.specs.Lists.{over}
+use Rattle.numbers.specs.Written.{over}
+use Rattle.numbers.specs.Refusal.{unless_refused}
 use Rattle.candidates.specs.Candidate.{is_density, check_candidate}
-use Rattle.candidates.specs.Memory.{rows, listed, listed_ids, holding, check, insert, remove, changed, answer, unless_refused, left}
+use Rattle.candidates.specs.Memory.{rows, listed, listed_ids, holding, check, insert, remove, changed, answer, left}
 use Rattle.candidates.specs.Samples.{Samples, left_by}
 
 pub samples : Samples

@@ -2,9 +2,9 @@
 -- It says what the list is by who is present and what stands before what, and nothing of how a candidate is put in.
 use Rattle.std.specs.Prelude.{ℕ, suc, ◌≤◌, T, ltb, length}
 use mathlib.Core.{Path.◌≡◌, Bool.Bool, Bool.not, Bool.◌&&◌, Bool.◌||◌, Bool.cond, List.List, List.[], List.◌∷◌, List.map, List.Permᴰ}
-use Rattle.numbers.specs.Refusal.{Verdict}
+use Rattle.numbers.specs.Refusal.{Verdict, unless_refused}
 use Rattle.candidates.specs.Candidate.{Candidate, goes_before, has_id, CandidateF64}
-use Rattle.candidates.specs.Memory.{places, Memory, Sized, Laid, Call, arrival, departure, check, unless_refused, Called}
+use Rattle.candidates.specs.Memory.{places, Memory, Sized, Laid, Call, arrival, departure, check, Called}
 
 -- ---- who is present
 -- a present candidate, with the number of the call that it arrived by

@@ -3,8 +3,8 @@
 use Rattle.std.specs.Prelude.{ℕ, ltb, length, take, Float}
 use mathlib.Core.{Path.◌≡◌, Bool.Bool, Bool.not, Bool.cond, List.List, List.[], List.◌∷◌, List.map}
 use Rattle.std.specs.List.{list_any}
-use Rattle.numbers.specs.Refusal.{Verdict, accepted, rejected, refuse, ◌then◌}
-use Rattle.candidates.specs.Lists.{over}
+use Rattle.numbers.specs.Refusal.{Verdict, refuse, ◌then◌, unless_refused}
+use Rattle.numbers.specs.Written.{over}
 use Rattle.candidates.specs.Candidate.{Candidate, check_candidate, goes_before, is_id, has_id}
 
 -- ---- a list in memory: how many candidates it has, and places for their ids and their densities
@@ -85,10 +85,6 @@ changed (departure id) = remove id
 -- ---- what a call answers, and what memory holds then: a refusal changes nothing
 unfoldable pub answer : Memory → Call → Verdict
 answer m call = check (listed_ids m) call
-
-unfoldable pub unless_refused : {A : Type 0} → Verdict → A → A → A
-unless_refused accepted before after = after
-unless_refused (rejected n) before after = before
 
 unfoldable pub left : Memory → Call → Memory
 left m call = unless_refused (answer m call) m (holding m (changed call (listed m)))

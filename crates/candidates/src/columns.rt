@@ -2,7 +2,7 @@
 // them or behind the last, or taken out, and the places past the list stay as they are. By hand, a column
 // and how many of its places are in use, as `list` hands them on: C lends a count for both columns.
 ghost use Rattle.std.specs.Prelude.{◌≡◌, ◌≤◌, ◌<◌, length, take, insert, remove};
-ghost use Rattle.candidates.specs.Lists.{over};
+ghost use Rattle.numbers.specs.Written.{over};
 
 pub(crate) fn put<T: Copy>(column: &mut [T], n: usize, at: usize, x: T)
     requires { (at ≤ n) × (n < length column.old) }

@@ -17,8 +17,8 @@ use numbers::vec2::Vec2;
 use numbers::vec3::Vec3;
 use optics::bxdf::Refracted;
 use optics::check::{
-    ROUGHNESS_MIN, check_circle_pair, check_eta, check_lookups, check_random, check_spectra,
-    check_surface,
+    check_circle_pair, check_eta, check_lookups, check_random, check_spectra, check_surface,
+    is_roughness_given, raised,
 };
 use optics::color::Color;
 use optics::microfacet::{DiskPoint, Kind, Microsurface, Spectra, Surface};
@@ -35,16 +35,15 @@ fn finite_only(density: f64) -> Result<f64, Refusal>
 
 // ---- making a surface
 // A surface from one roughness, which is raised to the least.
-#[tactic(auto, unfolding(crate::specs::Counter::make_surface, optics::specs::Surface::is_roughness_given, numbers::specs::Refusal::number))]
+#[tactic(auto, unfolding(crate::specs::Counter::make_surface, optics::specs::Surface::surface, numbers::specs::Refusal::number))]
 pub fn make_surface(kind: Kind, roughness: f64, spectra: &Spectra<'_>) -> Result<Surface, Refusal>
     ensures { answer result ≡ Counter.make_surface kind roughness spectra.now.eta spectra.now.k (medium spectra.now.outer) }
 {
-    refuse(Refusal::Roughness, float::within(0.0, 1.0, roughness))?;
+    refuse(Refusal::Roughness, is_roughness_given(roughness))?;
     check_spectra(kind, spectra)?;
-    let raised = Vec2::splat(float::max(roughness, ROUGHNESS_MIN));
     Ok(Surface {
         kind,
-        roughness: raised,
+        roughness: Vec2::splat(raised(roughness)),
     })
 }
 

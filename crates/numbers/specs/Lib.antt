@@ -8,4 +8,5 @@ pub mod SphericalUtils
 pub mod DenseSpectrum
 pub mod GridPoint
 pub mod Checked
+pub mod Written
 pub mod Samples

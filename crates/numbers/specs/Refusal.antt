@@ -1,7 +1,7 @@
 -- Refusals by number, document 01's ("At the counter") and 02's from 11 on; checks one after the other, and answers that may be a refusal. Definitions only.
 use Rattle.std.specs.Prelude.{ℕ, Bool, cond, Result, Ok, Err}
 pub use Rattle.numbers.specs.declared.refusal.{Refusal.Refusal}
-use Rattle.numbers.specs.declared.refusal.Refusal.TheVariants.{Roughness, Eta, K, Wavelength, Direction, RandomNumber, CirclePair, Filter, NotFinite, Power, Full, Id, Outer}
+use Rattle.numbers.specs.declared.refusal.Refusal.TheVariants.{Roughness, Eta, K, Wavelength, Direction, RandomNumber, CirclePair, Filter, NotFinite, Power, Full, Id, Outer, Book}
 
 -- the number of each ground of refusal
 unfoldable pub number : Refusal → ℕ
@@ -18,6 +18,7 @@ number Power = 10
 number Full = 11
 number Id = 12
 number Outer = 13
+number Book = 14
 
 -- ---- a check: passed, or failed with its number
 pub data Verdict : Type 0 where
@@ -38,6 +39,11 @@ infixl 25 ◌then◌
 abbrev pub ◌then◌ : Verdict → Verdict → Verdict
 accepted then next = next
 rejected n then next = rejected n
+
+-- what a call leaves: what was there before if it is refused, and else what it gives
+unfoldable pub unless_refused : {A : Type 0} → Verdict → A → A → A
+unless_refused accepted before after = after
+unless_refused (rejected n) before after = before
 
 -- ---- what a call answers: the number of a refusal and nothing besides, or a value
 pub data Answer (A : Type 0) : Type 0 where

@@ -19,6 +19,7 @@ pub enum Refusal {
     Full = 11,
     Id = 12,
     Outer = 13,
+    Book = 14,
 }
 
 // Whether a check passed, and why not.

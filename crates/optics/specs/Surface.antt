@@ -1,6 +1,6 @@
 -- A surface of metal or glass, what it may hold, and its spectra at a wavelength (document 01, "Records"; lumo's `MicrofacetConfig`). Definitions only.
 use Rattle.std.specs.Prelude.{ℕ, Float, pos, eqb, leb, Result, Ok, Err, Bool, true, false, ◌&&◌, ◌||◌, cond, List}
-use Rattle.std.specs.Float.{fin}
+use Rattle.std.specs.Float.{nan, fin}
 use Rattle.std.specs.Float.Ieee.{eq}
 use Rattle.floats.specs.Float.{◌⊘◌, f0, f1, decimal, max, within}
 use Rattle.numbers.specs.DenseSpectrum.{step_of, is_table, one_spacing, terminated, entry, sample_one_at, is_constant, all_within}
@@ -132,5 +132,12 @@ constant_eta eta (medium outer) = is_constant eta && is_constant outer
 unfoldable pub is_roughness_given : Float → Bool
 is_roughness_given r = within f0 f1 r
 
+abbrev pub raised : Float → Float
+raised r = max r roughness_min
+
 unfoldable pub surface : Kind → Float → Surface
-surface kind r = record { kind = kind; roughness = splat (max r roughness_min) }
+surface kind r = record { kind = kind; roughness = splat (raised r) }
+
+-- of a number in the place of a kind: where it is none, a roughness that no check accepts, so that its surface is refused as 1
+unfoldable pub roughness_of : ℕ → Float → Float
+roughness_of code r = cond (is_kind_code code) r nan

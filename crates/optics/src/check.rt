@@ -3,7 +3,7 @@
 ghost use Rattle.std.specs.Prelude.{◌≡◌};
 ghost use Rattle.numbers.specs.Refusal.{verdict};
 ghost use Rattle.numbers.specs.DenseSpectrum.{all_within};
-ghost use Rattle.optics.specs.Surface.{medium, is_roughness, roughness_holds, eta_min, eta_max, eta_holds, is_eta, all_zero, k_entries_hold, k_holds, outer_holds};
+ghost use Rattle.optics.specs.Surface.{medium, is_roughness, roughness_holds, eta_min, eta_max, eta_holds, is_eta, all_zero, k_entries_hold, k_holds, outer_holds, is_roughness_given, raised};
 ghost use Rattle.optics.specs.Check.{check_spectra, check_surface, check_eta, check_lookups, check_random, is_circle_pair, check_circle_pair};
 
 use crate::color::Color;
@@ -15,7 +15,7 @@ use numbers::refusal::{Check, Refusal, refuse};
 use numbers::vec2::Vec2;
 
 // The limits of a surface's fields.
-pub const ROUGHNESS_MIN: f64 = 1e-5;
+const ROUGHNESS_MIN: f64 = 1e-5;
 
 const ETA_MIN: f64 = 0.01;
 
@@ -24,6 +24,21 @@ const ETA_MAX: f64 = 100.0;
 const K_MIN: f64 = 1e-6;
 
 const K_MAX: f64 = 100.0;
+
+// Whether a surface may be made of a roughness, which is then raised.
+#[tactic(auto, unfolding(crate::specs::Surface::is_roughness_given))]
+pub fn is_roughness_given(r: f64) -> bool
+    ensures { result ≡ is_roughness_given r }
+{
+    float::within(0.0, 1.0, r)
+}
+
+// A roughness as it was given, raised to the least.
+pub fn raised(r: f64) -> f64
+    ensures { result ≡ raised r }
+{
+    float::max(r, ROUGHNESS_MIN)
+}
 
 fn is_roughness(a: f64) -> bool
     ensures { result ≡ is_roughness a }

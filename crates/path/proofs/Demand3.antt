@@ -13,7 +13,7 @@ use Rattle.optics.specs.Surface.{Outside, Microsurface, constant_eta}
 use Rattle.optics.specs.Bxdf.{Scattered, scattered, totally, rest}
 use Rattle.optics.specs.Bxdf as Bxdf
 use Rattle.optics.specs.Density.{pdf}
-use Rattle.numbers.specs.Refusal.{Verdict, accepted, rejected}
+use Rattle.numbers.specs.Refusal.{Verdict, accepted, rejected, unless_refused}
 use Rattle.optics.specs.declared.color.Color.{Color}
 use Rattle.optics.specs.declared.microfacet.Kind.{Kind}
 use Rattle.optics.specs.declared.microfacet.Kind.TheVariants.{Metal, Glass}
@@ -25,7 +25,7 @@ use Rattle.path.specs.declared.records.Bounce.{Bounce}
 use Rattle.optics.specs.Color.{all4}
 use Rattle.path.specs.Path.{path, ones, leading, terminate, is_filter, weighed}
 use Rattle.path.specs.Bounce.{advanced, check_bounce, left_on_glass, left_on, lambda_on, local_wo, share, scatter, weights_from, weights}
-use Rattle.path.specs.Reckoning.{unless_refused, reckon}
+use Rattle.path.specs.Reckoning.{reckon}
 use Rattle.path.specs.Answer.{Outcome, outcome, density_of, density, shares_on, shares, branch_of, worked, on_surface, answered, bounce, path_of}
 use Rattle.path.specs.Demand3.{F64, ColorF64, Step, StepF64, AllFell, SharesHold, DensityHolds, AnswerHolds, Run, end, bounced, Throughout, Demand3, NeverTotal}
 use Rattle.path.proofs.Checks.{accepted_of}

@@ -1,8 +1,9 @@
 // Records of the sample: a function's number, how many words go in and come out, and the words.
 //
 //   NNN II O WORD .. WORD      in decimal, and each word 16 hexadecimal digits
+use floats::patterns;
 use std::fs::File;
-use text::{patterns, records};
+use text::records;
 
 // What a record begins with; how many words come out is known by the function.
 #[derive(Clone, Copy)]

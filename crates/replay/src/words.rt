@@ -1,5 +1,6 @@
 // Words in, as they come in a record, and words out, each held to the record's next.
 use crate::record;
+use floats::patterns;
 use numbers::complex::Complex;
 use numbers::onb::Onb;
 use numbers::refusal::Refusal;
@@ -11,7 +12,6 @@ use optics::microfacet::{DiskPoint, Ggx, Kind, OpticalConstants, Surface};
 use path::plain::{BounceResult, DensityRecord, SharesRecord};
 use path::records::Path;
 use std::fs::File;
-use text::patterns;
 
 // ---- in
 // The words that go into a call, and zeros behind them: no call takes more.

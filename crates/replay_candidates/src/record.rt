@@ -8,8 +8,9 @@ ghost use Rattle.std.specs.Prelude.{◌≡◌, length};
 use candidates::candidate::Candidate;
 use candidates::list::ROOM;
 use candidates::owned::List;
+use floats::patterns;
 use std::fs::File;
-use text::{patterns, records};
+use text::records;
 
 // What is called.
 #[derive(Clone, Copy)]

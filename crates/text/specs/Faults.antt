@@ -3,7 +3,7 @@ use Rattle.std.specs.Prelude.{ℕ, ◌-◌, List, ◌++◌, codes, decimal}
 use Rattle.text.specs.declared.faults.Fault.{Fault}
 use Rattle.text.specs.declared.faults.Indices.{Indices}
 use Rattle.text.specs.declared.faults.Wrong.{Wrong}
-use Rattle.text.specs.declared.faults.Wrong.TheVariants.{Command, Index, Id, Kind, Flag, Number, Eta, K, Short, More, NoSurface, NoPath}
+use Rattle.text.specs.declared.faults.Wrong.TheVariants.{Command, Index, Id, Kind, Flag, Number, Eta, K, Short, More, NoSurface, NoPath, NoFile, NoPlace}
 
 -- which indices there are
 abbrev pub indices_text : Indices → List ℕ
@@ -23,6 +23,8 @@ wrong_text Short = codes "the line ends too soon"
 wrong_text More = codes "the line goes on"
 wrong_text NoSurface = codes "the surface is not made"
 wrong_text NoPath = codes "the path is not started"
+wrong_text NoFile = codes "the file cannot be read"
+wrong_text NoPlace = codes "the book's surfaces go past the last place"
 
 -- what is wrong, behind the word's number
 abbrev pub fault_text : Fault → List ℕ

@@ -26,6 +26,8 @@ pub enum Wrong {
     More,
     NoSurface,
     NoPath,
+    NoFile,
+    NoPlace,
 }
 
 // What is wrong with a line, and at which of its words, from 1.
@@ -64,6 +66,8 @@ impl fmt::Display for Wrong {
             Wrong::More => f.write_str("the line goes on"),
             Wrong::NoSurface => f.write_str("the surface is not made"),
             Wrong::NoPath => f.write_str("the path is not started"),
+            Wrong::NoFile => f.write_str("the file cannot be read"),
+            Wrong::NoPlace => f.write_str("the book's surfaces go past the last place"),
         }
     }
 }

@@ -3,9 +3,10 @@
 ghost use Rattle.std.specs.Prelude.{◌≡◌, ◌<◌, MatchOption, None, Some, drop, length, IfSome, IfOk, OnOk, IsTrue};
 ghost use Rattle.text.specs.Line.{left, unread, shown, begin, next_word, past_word, fault, word, keyword, is_next, past_optional, end, below, decimal_below, index, id, flag, number_bits, number, past_number, spectrum_ends, entries, past_entries, with_entries};
 
+use crate::digits;
 use crate::faults::{Fault, Indices, Wrong};
 use crate::words::{from_word, is_blank, split_word};
-use crate::{digits, patterns};
+use floats::patterns;
 
 // The most digits of an index or a flag.
 const INDEX_DIGITS: usize = 4;

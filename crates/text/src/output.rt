@@ -3,7 +3,7 @@ ghost use Rattle.std.specs.Prelude.{◌≡◌, ◌+◌, ◌<◌, ◌≤◌, [], 
 ghost use Rattle.text.specs.Digits.{glyph, hex_text};
 ghost use Rattle.text.specs.Output.{put, number_text, numbers_text};
 
-use crate::patterns;
+use floats::patterns;
 use std::fmt;
 use std::marker::Model;
 

@@ -18,3 +18,4 @@ number_positive W.Power = omega arith
 number_positive W.Full = omega arith
 number_positive W.Id = omega arith
 number_positive W.Outer = omega arith
+number_positive W.Book = omega arith

@@ -1,4 +1,4 @@
--- A list written over the front of another. Definitions only.
+-- What a call writes over the front of memory that it was lent. Definitions only.
 use Rattle.std.specs.Prelude.{List, ◌++◌, length, drop}
 
 -- a list written over the front of what was there

@@ -3,7 +3,7 @@ ghost use Rattle.std.specs.Prelude.{◌≡◌};
 ghost use Rattle.std.specs.Float.{binary64};
 ghost use Rattle.std.specs.Float.Ieee.{to_bits, of_bits};
 
-use floats::float;
+use crate::float;
 
 // The sign's bit.
 const SIGN: u64 = 0x8000000000000000;
