@@ -1,0 +1,3 @@
+-- Laws of equality.
+pub mod OfParts
+pub mod OfSurfaces

@@ -1,0 +1,4 @@
+-- Laws of reading.
+pub mod Given
+pub mod Rest
+pub mod Stored
