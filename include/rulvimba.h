@@ -6,14 +6,15 @@
  *
  * Each function of the library is proved, for every input, to return what is said here and to leave in
  * memory what is said here (crates/rulvimba_c/src has the contracts, crates/rulvimba/specs their layout
- * for C). It reads and writes nothing else, keeps no state, allocates nothing, and always returns. What is
- * asked of the caller: a pointer to an array is good for the length that goes with it, a pointer to a path
- * for eight doubles, those to a list for one count, 64 ids and 64 densities; none is NULL (an array of
- * length 0 included); a bool is 0 or 1; and what is written to (a path, an output, each of a list's three
- * parts) overlaps nothing else that is handed in. The processor's float control is the default (round to
- * nearest, nothing flushed to zero): a program linked with -ffast-math, or one that sets a rounding mode,
- * gets other answers. Calls on different memory may run on different threads. The library is for x86-64
- * with the System V ABI, as on Linux.
+ * for C, crates/book/specs/Record.antt that of a book's surface). It reads and writes nothing else, keeps
+ * no state, allocates nothing, and always returns. What is asked of the caller: a pointer to an array is
+ * good for the length that goes with it, a pointer to a path for eight doubles, one to a book's surface for
+ * that struct, those to a list for one count, 64 ids and 64 densities; none is NULL (an array of length 0
+ * included); a bool is 0 or 1; and what is written to (a path, an output, a buffer, a book's surfaces, each
+ * of a list's three parts) overlaps nothing else that is handed in. The processor's float control is the
+ * default (round to nearest, nothing flushed to zero): a program linked with -ffast-math, or one that sets
+ * a rounding mode, gets other answers. Calls on different memory may run on different threads. The library
+ * is for x86-64 with the System V ABI, as on Linux.
  *
  * NUMBERS. Every result has a number: 0 where the call is accepted, else why it is refused, one of
  * RULVIMBA_REFUSED_.. below. Checks go in the order in which each function lists them; the first that
@@ -30,8 +31,8 @@
  * their quotient at a wavelength, eta / outer, rounded once, and 0 at wavelength 0. Light enters where wo is on
  * the outer side, its product with the normal not below 0, and leaves where wo is on the inner side, the product
  * below 0; the normal is never turned. On rough glass the normal of the sampled facet stands for it. The
- * backface flag is read on metal alone: where it is set, the light is lost. On glass it does nothing. Metal
- * without it reflects on either side.
+ * backface flag is read on metal alone: where it is set, the light is lost, but on two-sided metal of a material
+ * book (rulvimba_book_bounce), which ignores it. On glass it does nothing. Metal without it reflects on either side.
  *
  * DENSITIES. A surface that sends light into one direction has a probability: mean roughness below 0.001,
  * or glass whose index at the leading wavelength (a path's first) is 1.0. Any other has a density per solid
@@ -41,7 +42,7 @@
 #define RULVIMBA_H
 
 /* Raised with each change of a call, of what it answers, of a struct or of a number. */
-#define RULVIMBA_VERSION 4
+#define RULVIMBA_VERSION 5
 
 #include <stdbool.h>
 #include <stddef.h>
@@ -53,7 +54,7 @@ extern "C" {
 
 /* ---- why a call is refused ---- */
 enum {
-    RULVIMBA_REFUSED_ROUGHNESS = 1,     /* or a kind that is neither metal nor glass */
+    RULVIMBA_REFUSED_ROUGHNESS = 1,     /* or a kind that is neither; of a book's surface also x or y not as given */
     RULVIMBA_REFUSED_ETA = 2,           /* or the values of a lookup */
     RULVIMBA_REFUSED_K = 3,
     RULVIMBA_REFUSED_WAVELENGTH = 4,
@@ -65,10 +66,14 @@ enum {
     RULVIMBA_REFUSED_POWER = 10,
     RULVIMBA_REFUSED_FULL = 11,         /* 64 candidates are present */
     RULVIMBA_REFUSED_ID = 12,           /* an id that arrives and is present, or departs and is not */
-    RULVIMBA_REFUSED_OUTER = 13         /* glass's outer spectrum; checked behind k */
+    RULVIMBA_REFUSED_OUTER = 13,        /* glass's outer spectrum, behind k; in a book also one that is not ones */
+    RULVIMBA_REFUSED_BOOK = 14          /* no book, or one with two equal surfaces; too long, or for the buffer */
 };
 
 /* ---- what goes in ---- */
+
+/* A surface's roughness along x and y. */
+typedef struct { double x, y; } rulvimba_vec2;
 
 /* A direction is accepted if x*x + y*y + z*z, computed, is from 0.999999 to 1.000001. */
 typedef struct { double x, y, z; } rulvimba_vec3;
@@ -103,7 +108,7 @@ enum { RULVIMBA_SAMPLES = 95, RULVIMBA_FINE_SAMPLES = 471 };
  */
 typedef struct {
     uint64_t kind;
-    struct { double x, y; } roughness;
+    rulvimba_vec2 roughness;
 } rulvimba_surface;
 
 /* A path: four wavelengths in nm, 0 for one that has ended, and the power left at each. */
@@ -205,6 +210,88 @@ enum { RULVIMBA_BOUNCE_IN = 27, RULVIMBA_BOUNCE_OUT = 18 };
 size_t rulvimba_bounces(rulvimba_surface surface, const double *eta, size_t eta_len, const double *k, size_t k_len,
                         const double *outer, size_t outer_len, const double *input, size_t input_len, double *output,
                         size_t output_len);
+
+/* ---- a material book: surfaces as bytes, for a file ---- */
+
+/*
+ * A book begins with the count of its surfaces in four bytes, low byte first. Then comes for each surface a pair
+ * of numbers, four bytes each, low byte first: where its part begins, from the book's first byte, and how long it
+ * is. The parts follow without gaps, in the order of the pairs. A part has
+ *    0        the kind: 0 metal, 1 glass
+ *    1        the step: 5 or 1, the nm between two entries
+ *    2        the flag: 1 two-sided, else 0
+ *    3        the roughness as it was given, a double in eight bytes, low byte first
+ *    11       the entries of eta, 95 or 471 such doubles, then as many of k
+ * and so 1,531 or 7,547 bytes; k begins at 771 or 3,779. A book has at most 65,536 bytes: at most 42 surfaces, or 8
+ * where all have 471 entries. RULVIMBA_BOOK_MAX bytes hold any book (read one byte more of a file, so that a longer
+ * one is seen to be none), and RULVIMBA_BOOK_SURFACES structs, some 480 KB, all of its surfaces.
+ */
+enum { RULVIMBA_BOOK_MAX = 65536, RULVIMBA_BOOK_SURFACES = 42 };
+
+/*
+ * A book's surface. The roughness stands twice: as it was given, and raised to 1e-5 if that is lower (what
+ * rulvimba_make_surface answers for it). The first `entries` places of each spectrum are its entries. Two-sided
+ * metal ignores the backface flag of a bounce; on glass the flag is kept and does nothing.
+ * A book has air outside: a surface that was read has ones in outer, and one that is to be written is to have them
+ * on glass; on metal they are never looked at.
+ * Every call that takes such a surface first checks it: given is from 0 to 1, and x and y both equal the greater of
+ * given and 1e-5, else 1, and a kind that is neither RULVIMBA_METAL nor RULVIMBA_GLASS is 1 too; then eta, of 95 or
+ * 471 entries, 2; k 3; on glass outer 13; each as on any surface.
+ * To fill one: make the surface by rulvimba_make_surface, and take its kind and roughness, the roughness that it was
+ * made of as given, and the spectra's entries.
+ */
+typedef struct {
+    uint64_t kind;
+    uint64_t two_sided;                   /* yes unless 0 */
+    double given;
+    rulvimba_vec2 roughness;              /* raised */
+    size_t entries;                       /* 95 or 471, of each spectrum */
+    double eta[RULVIMBA_FINE_SAMPLES];
+    double k[RULVIMBA_FINE_SAMPLES];
+    double outer[RULVIMBA_FINE_SAMPLES];
+} rulvimba_book_surface;
+
+typedef struct { uint64_t number; size_t count; } rulvimba_count_result;
+
+/*
+ * Reads a book, which is the whole of the bytes. Returns how many surfaces it has; those from the one at `first` on
+ * (0 is the book's first) are stored in as many of the structs as there are, in the book's order; a place past a
+ * spectrum's entries is 0. All structs past the last surface are as they were. With surfaces_len 0 it is the count alone.
+ * Refused: 14 for bytes that are laid out in any other way, or two surfaces that are equal; then each surface in
+ * order, by 1, 2, 3; and every struct is as it was.
+ * Two surfaces are equal if they have the same kind, the same raised roughness and the same entries, numbers taken by
+ * value; whether they are two-sided doesn't count.
+ */
+rulvimba_count_result rulvimba_read_book(const uint8_t *book, size_t book_len, size_t first,
+                                         rulvimba_book_surface *surfaces, size_t surfaces_len);
+
+/*
+ * Writes a book of the surfaces, in their order; one that is equal to an earlier one is left out. Returns how many
+ * bytes it has, which then stand at the front of the buffer; what lies past them there is as it was.
+ * Refused: each surface in order, by 1, 2, 3, or 13 for glass whose outer spectrum is not 1 throughout; then 14 for a
+ * book that would have more than 65,536 bytes, or more than the buffer; and the buffer is as it was.
+ */
+rulvimba_count_result rulvimba_write_book(const rulvimba_book_surface *surfaces, size_t surfaces_len, uint8_t *buffer,
+                                          size_t buffer_len);
+
+/* The number that a book's surface is refused with in a bounce, 1, 2, 3 or 13, or 0. (To be written it may be 13 besides,
+ * where its outer spectrum is accepted but isn't ones.) */
+uint64_t rulvimba_check_book_surface(const rulvimba_book_surface *surface);
+
+/*
+ * The surface that every other call takes: lend s->eta, s->k and s->outer with it, s->entries each. A book's surface
+ * that is refused as 1 becomes one that they refuse as 1 too. (Before s->entries is lent as a length, it is to be at
+ * most 471, as it is in every surface that isn't refused.) None of these calls knows of two-sided metal: hand
+ * rulvimba_bounce and rulvimba_bounces its backface as false.
+ */
+rulvimba_surface rulvimba_surface_of_book(const rulvimba_book_surface *surface);
+
+/*
+ * A bounce of *path on a book's surface: what rulvimba_bounce answers and leaves on a surface of that kind, roughness
+ * and spectra, but that backface counts as false on two-sided metal. Refused: the surface; then as rulvimba_bounce.
+ */
+rulvimba_bounce_result rulvimba_book_bounce(rulvimba_path *path, const rulvimba_book_surface *surface,
+                                            rulvimba_bounce_args b);
 
 /* ---- terms. Directions are local here: z is along the shading normal ---- */
 

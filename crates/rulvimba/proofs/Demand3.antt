@@ -1,5 +1,5 @@
 -- Demand 3 through the C library (`Demand3` of specs/Demand3.antt).
--- What a call writes to memory is what the next one reads (`left`), so a list of calls is a `Run` of path's `Demand3` (`run_of`), and what holds after each of its bounces holds of the doubles in memory and of the record that the call returned.
+-- What a call writes to memory is what the next one reads (`left`), so a list of calls is a `Run` of path's `Demand3` (`run_of`), and what holds after each of its bounces holds of the doubles in memory and of the record that the call returned (`after_call`). A call on a book's surface is one of those calls (`as_call`).
 use Prim.Native.Nat.{ℕ, zero, suc, ◌<◌, ◌≤◌}
 use native.Mathlib.Omega.{arith}
 use mathlib.Core.Path.{◌≡◌, refl, sym, ap, ◌∙◌, subst}
@@ -32,14 +32,17 @@ use Rattle.path.specs.Bounce.{check_bounce, lambda_on, scatter, advanced}
 use Rattle.path.specs.Answer.{two_shares, Outcome, outcome_of, outcome, branch_of, worked, on_surface, answered, bounce, path_of}
 use Rattle.path.specs.Plain.{density_record, shares_record, bounce_result}
 use Rattle.path.specs.Demand3 as Path
-use Rattle.path.specs.Demand3.{ColorF64, SharesHold, DensityHolds, AnswerHolds, Run, end, bounced, Throughout, Answered}
+use Rattle.path.specs.Demand3.{ColorF64, StepF64, Holds, SharesHold, DensityHolds, AnswerHolds, Run, end, bounced, Throughout, Answered}
 use Rattle.path.proofs.Demand3.{demand_3}
 use Rattle.path.proofs.Answers.{answers}
 use Rattle.rulvimba.specs.declared.surfaces.SurfaceRecord.{SurfaceRecord}
+use Rattle.book.specs.declared.record.Record.{Record}
 use Rattle.rulvimba.specs.Surfaces.{surface_of, surface_with}
-use Rattle.rulvimba.specs.Paths.{path_in, numbers_of, path_started, path_after}
-use Rattle.rulvimba.specs.Demand3.{Laid, Call, step_of, Calls, done, called, AfterEach, Demand3}
+use Rattle.rulvimba.specs.Paths.{path_in, numbers_of, path_started, path_after, BounceCall}
+use Rattle.rulvimba.specs.Calls.{Call, step_of, as_call, BookBounceCall, BookCallIsCall}
+use Rattle.rulvimba.specs.Demand3.{Laid, CallHolds, Calls, done, called, called_on_book, reckoned, AfterEach, Demand3}
 use Rattle.rulvimba.proofs.UnknownKind.{unknown-checked}
+use Rattle.rulvimba.proofs.BookBounce.{book_call_is_call}
 
 -- ---- where the doubles of a path that is read from memory stand
 laid : (q : Path) (xs : List Float) → length xs ≡ 8 → path_in xs ≡ q → Laid q xs
@@ -153,35 +156,53 @@ answer_of : (xs : List Float) (c : Call) → (a : Bounced) × (outcome a ≡ bou
 unfolding Answered
 answer_of xs c = answers (path_in xs) (step_of c)
 
-run_of : {xs : List Float} → Calls xs → Run (path_in xs)
-run_of done = end
-run_of {xs} (called c f r ys h calls) =
+-- one call before the others
+abbrev first : (xs : List Float) (c : Call) → StepF64 (step_of c) → (r : BounceResult) (ys : List Float) → BounceCall xs c.surface c.eta c.k c.outer c.bounce r ys → Run (path_in ys) → Run (path_in xs)
+first xs c f r ys h run =
     let a = answer_of xs c in
     let l = left xs (step_of c).surface c.bounce in
-    bounced (step_of c) f a.0 a.1 (path_in ys) (ap path_in h.1 ∙ l.next ∙ ap path_of (sym a.1)) (run_of calls)
+    bounced (step_of c) f a.0 a.1 (path_in ys) (ap path_in h.1 ∙ l.next ∙ ap path_of (sym a.1)) run
+
+of_book : (xs : List Float) (s : Record) (b : Bounce) (r : BounceResult) (ys : List Float) → BookBounceCall xs s b r ys
+    → let c = as_call s b in BounceCall xs c.surface c.eta c.k c.outer c.bounce r ys
+unfolding BookCallIsCall
+of_book = book_call_is_call
+
+run_of : {xs : List Float} → Calls xs → Run (path_in xs)
+run_of done = end
+run_of {xs} (called c f r ys h calls) = first xs c f r ys h (run_of calls)
+run_of {xs} (called_on_book s b f r ys h calls) = first xs (as_call s b) f r ys (of_book xs s b r ys h) (run_of calls)
 
 -- ---- what holds after each bounce of the run holds after each call
-after_each : {xs : List Float} (q : Path) → length xs ≡ 8 → (calls : Calls xs) → Throughout q (run_of calls) → AfterEach q calls
-unfolding Throughout AfterEach run_of path_in
-after_each q n done t = tt
-after_each {xs} q n (called c f r ys h calls) t =
-    let s = c.surface in
+eight_left : (xs : List Float) (c : Call) (r : BounceResult) (ys : List Float) → length xs ≡ 8 → BounceCall xs c.surface c.eta c.k c.outer c.bounce r ys → length ys ≡ 8
+eight_left xs c r ys n h = ap length h.1 ∙ (left xs (step_of c).surface c.bounce).eight n
+
+after_call : (q : Path) (xs : List Float) (c : Call) (r : BounceResult) (ys : List Float) → length xs ≡ 8 → BounceCall xs c.surface c.eta c.k c.outer c.bounce r ys
+    → Holds (path_in xs) (path_in ys) q (step_of c) (answer_of xs c).0 → CallHolds (reckoned q c) c xs r ys
+unfolding path_in
+after_call q xs c r ys n h t =
     let m = (step_of c).surface in
     let a = answer_of xs c in
-    let l = left xs m c.bounce in
-    let eight : length ys ≡ 8 = ap length h.1 ∙ l.eight n in
     let result : r ≡ bounce_result (outcome a.0) = h.0 ∙ ap bounce_result (sym a.1) in
-    let k : Handed m.kind r = subst (Handed m.kind) (sym result) (handed m.kind a.0 t.0.answer) in (
-      record {
-        powers = t.0.powers;
-        product = laid _ ys eight t.0.product;
-        refused = λ z. h.1 ∙ l.same (subst (λ (x : BounceResult). 0 < x.number) h.0 z);
-        given = λ z. k.given z ∙ kind-known (path_in xs) s c.eta c.k c.outer c.bounce (subst (λ (x : BounceResult). x.number ≡ 0) h.0 z);
-        shares = k.shares;
-        density = k.density;
-      },
-      after_each _ eight calls t.1,
-    )
+    let k : Handed m.kind r = subst (Handed m.kind) (sym result) (handed m.kind a.0 t.answer) in
+    record {
+      powers = t.powers;
+      product = laid _ ys (eight_left xs c r ys n h) t.product;
+      refused = λ z. h.1 ∙ (left xs m c.bounce).same (subst (λ (x : BounceResult). 0 < x.number) h.0 z);
+      given = λ z. k.given z ∙ kind-known (path_in xs) c.surface c.eta c.k c.outer c.bounce (subst (λ (x : BounceResult). x.number ≡ 0) h.0 z);
+      shares = k.shares;
+      density = k.density;
+    }
+
+after_each : {xs : List Float} (q : Path) → length xs ≡ 8 → (calls : Calls xs) → Throughout q (run_of calls) → AfterEach q calls
+unfolding Throughout AfterEach run_of
+after_each q n done t = tt
+after_each {xs} q n (called c f r ys h calls) t =
+    (after_call q xs c r ys n h t.0, after_each _ (eight_left xs c r ys n h) calls t.1)
+after_each {xs} q n (called_on_book s b f r ys h calls) t =
+    let c = as_call s b in
+    let g = of_book xs s b r ys h in
+    (after_call q xs c r ys n g t.0, after_each _ (eight_left xs c r ys n g) calls t.1)
 
 -- ---- from a start
 from_start : (lambda : Color) (xs : List Float) → ColorF64 lambda → xs ≡ numbers_of (path lambda ones) → (calls : Calls xs) → AfterEach (path lambda ones) calls

@@ -6,11 +6,11 @@ use lib.Ieee.{Float, le}
 use borrow.Author.Tests.{lt-leb}
 use Rattle.floats.specs.Float.{within, decimal}
 use Rattle.numbers.specs.Refusal.{refused, rejected}
-use Rattle.optics.specs.Surface.{Outside, kind_of, roughness_min, is_roughness, roughness_holds, is_roughness_given}
+use Rattle.optics.specs.Surface.{Outside, kind_of, roughness_of, roughness_min, is_roughness, roughness_holds, is_roughness_given}
 use Rattle.optics.specs.Check.{check_surface}
 use Rattle.counter.specs.Counter.{make_surface}
 use Rattle.rulvimba.specs.declared.surfaces.SurfaceRecord.{SurfaceRecord}
-use Rattle.rulvimba.specs.Surfaces.{roughness_of, surface_of, surface_with}
+use Rattle.rulvimba.specs.Surfaces.{surface_of, surface_with}
 
 pub unknown-checked : (s : SurfaceRecord) (eta k outer : List Float) → 1 < s.kind → check_surface (surface_with s eta k outer) ≡ rejected 1
 unfolding check_surface surface_of roughness_of roughness_holds is_roughness within roughness_min decimal le

@@ -1,4 +1,4 @@
--- Demand 3 of the contract through the C library: a list of calls of rulvimba_bounce on one path in the caller's memory, after rulvimba_start. Definitions only; it is proved in proofs/Demand3.antt.
+-- Demand 3 of the contract through the C library: a list of calls of rulvimba_bounce and rulvimba_book_bounce on one path in the caller's memory, after rulvimba_start. Definitions only; it is proved in proofs/Demand3.antt.
 -- What holds is said of the doubles by their places (`Laid`): the definitions that read a path from memory and write one come in by the contracts of the calls alone.
 use Rattle.std.specs.Prelude.{ℕ, ◌<◌, Float, Some, length}
 use mathlib.Core.{Path.◌≡◌, Bool.true, Bool.false, List.List}
@@ -7,28 +7,17 @@ use Rattle.path.specs.Path.{path, ones, is_start}
 use Rattle.path.specs.Many.{at}
 use Rattle.path.specs.Answer.{two_shares}
 use Rattle.path.specs.Reckoning.{reckon}
-use Rattle.path.specs.Demand3.{ColorF64, Step, StepF64, Fell, SharesHold, DensityHolds}
+use Rattle.path.specs.Demand3.{ColorF64, StepF64, Fell, SharesHold, DensityHolds}
 use Rattle.path.specs.declared.{records.Path.Path, records.Bounce.Bounce, plain.BounceResult.BounceResult}
-use Rattle.rulvimba.specs.Surfaces.{SurfaceRecord, surface_with}
+use Rattle.book.specs.declared.record.Record.{Record}
 use Rattle.rulvimba.specs.Paths.{StartCall, BounceCall}
+use Rattle.rulvimba.specs.Calls.{Call, step_of, BookBounceCall, as_call}
 
 -- ---- memory: eight doubles, the wavelengths of a path at 0 to 3 and its powers at 4 to 7
 pub record Laid (p : Path) (xs : List Float) : Type 0 where
   pub eight : length xs ≡ 8
   pub lambda : (at xs 0 ≡ p.lambda.s0) × (at xs 1 ≡ p.lambda.s1) × (at xs 2 ≡ p.lambda.s2) × (at xs 3 ≡ p.lambda.s3)
   pub power : (at xs 4 ≡ p.power.s0) × (at xs 5 ≡ p.power.s1) × (at xs 6 ≡ p.power.s2) × (at xs 7 ≡ p.power.s3)
-
--- ---- a call's arguments but the path
-pub record Call : Type 0 where
-  pub surface : SurfaceRecord
-  pub eta : List Float
-  pub k : List Float
-  pub outer : List Float
-  pub bounce : Bounce
-
--- the same as a step of path's `Demand3`
-abbrev pub step_of : Call → Step
-step_of c = record { surface = surface_with c.surface c.eta c.k c.outer; bounce = c.bounce }
 
 -- ---- what holds after a call c that found xs in memory, returned r and left ys, where q is the reckoning's path after it
 pub record CallHolds (q : Path) (c : Call) (xs : List Float) (r : BounceResult) (ys : List Float) : Type 0 where
@@ -45,16 +34,23 @@ pub record CallHolds (q : Path) (c : Call) (xs : List Float) (r : BounceResult) 
   -- a density is finite and not below 0; where there is none, 0 stands there
   pub density : DensityHolds (Some r.density.value)
 
--- ---- a list of calls on the path in memory: the numbers that go in are values of binary64, and what each call returned and left is what its contract says
+-- ---- a list of calls on the path in memory, each on a surface or on a book's: the numbers that go in are values of binary64, and what each call returned and left is what its contract says
 pub data Calls : List Float → Type 0 where
   done : {xs : List Float} → Calls xs
   called : {xs : List Float} (c : Call) → StepF64 (step_of c) → (r : BounceResult) (ys : List Float) → BounceCall xs c.surface c.eta c.k c.outer c.bounce r ys → Calls ys → Calls xs
+  called_on_book : {xs : List Float} (s : Record) (b : Bounce) → StepF64 (step_of (as_call s b)) → (r : BounceResult) (ys : List Float) → BookBounceCall xs s b r ys → Calls ys → Calls xs
+
+-- the reckoning's path after a call
+abbrev pub reckoned : Path → Call → Path
+reckoned q c = reckon q (step_of c).surface (step_of c).bounce
 
 -- after every call of it, q being the reckoning's path before the first
 unfoldable pub AfterEach : {xs : List Float} → Path → Calls xs → Type 0
 AfterEach q done = Unit
 AfterEach {xs} q (called c f r ys h calls) =
-    CallHolds (reckon q (step_of c).surface (step_of c).bounce) c xs r ys × AfterEach (reckon q (step_of c).surface (step_of c).bounce) calls
+    CallHolds (reckoned q c) c xs r ys × AfterEach (reckoned q c) calls
+AfterEach {xs} q (called_on_book s b f r ys h calls) =
+    CallHolds (reckoned q (as_call s b)) (as_call s b) xs r ys × AfterEach (reckoned q (as_call s b)) calls
 
 -- ---- a start at these wavelengths that found `before` in memory, returned n and left `after`
 pub record StartHolds (lambda : Color) (before : List Float) (n : ℕ) (after : List Float) : Type 0 where

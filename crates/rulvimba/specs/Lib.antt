@@ -3,4 +3,6 @@ pub mod Results
 pub mod Surfaces
 pub mod Paths
 pub mod Lists
+pub mod Calls
 pub mod Demand3
+pub mod Books

@@ -1,20 +1,16 @@
 -- Surfaces laid out for C, their kind by its code. Definitions only.
-use Rattle.std.specs.Prelude.{ℕ, Float}
-use mathlib.Core.{Bool.cond, List.List}
-use Rattle.std.specs.Float.{nan}
+use Rattle.std.specs.Prelude.{Float}
+use mathlib.Core.{List.List}
 use Rattle.floats.specs.Float.{f0}
 use Rattle.numbers.specs.Vec2.{vec2}
 use Rattle.numbers.specs.Refusal.{Answer}
 use Rattle.counter.specs.Counter.{map_answer}
 use Rattle.rulvimba.specs.Results.{number_of, value_or}
-use Rattle.optics.specs.Surface.{Microsurface, microsurface, kind_code, is_kind_code, kind_of}
+use Rattle.optics.specs.Surface.{Microsurface, microsurface, kind_code, kind_of, roughness_of}
 use Rattle.optics.specs.declared.microfacet.Surface.{Surface}
 pub use Rattle.rulvimba.specs.declared.surfaces.{SurfaceRecord.SurfaceRecord, SurfaceResult.SurfaceResult}
 
--- a kind that is neither has a roughness that no check accepts, so that its surface is refused as 1
-unfoldable pub roughness_of : ℕ → Float → Float
-roughness_of kind a = cond (is_kind_code kind) a nan
-
+-- a kind that is neither has a roughness that is refused as 1
 unfoldable pub surface_of : SurfaceRecord → Surface
 surface_of s = record {
   kind = kind_of s.kind;

@@ -15,7 +15,7 @@ use path::records::{Bounce, Bounced, Path};
 
 // By hand beside `path::many`, which reads its eight by their places: cut out of 27, they would be an Option whose other
 // case never comes.
-fn load(numbers: &[f64; 8]) -> Path
+pub(crate) fn load(numbers: &[f64; 8]) -> Path
     ensures { result ≡ path_in numbers.now }
 {
     let [l0, l1, l2, l3, p0, p1, p2, p3] = *numbers;
@@ -52,7 +52,7 @@ fn store(numbers: &mut [f64; 8], path: Path)
 
 // Stores the path that an answer carries; a refusal stores nothing.
 #[tactic(auto, using(crate::proofs::AfterAnswer::path_after_lem))]
-fn keep(numbers: &mut [f64; 8], answer: Bounced)
+pub(crate) fn keep(numbers: &mut [f64; 8], answer: Bounced)
     ensures { numbers.new ≡ path_after numbers.old (outcome answer) }
 {
     if answer.light.is_ok() {

@@ -1,11 +1,11 @@
 // Surfaces as records for C, whose kind is its code. A number that is no kind's is refused as 1, by a
 // roughness that no check accepts.
 ghost use Rattle.std.specs.Prelude.{◌≡◌};
-ghost use Rattle.optics.specs.Surface.{kind_of, medium};
+ghost use Rattle.optics.specs.Surface.{kind_of, roughness_of, medium};
 ghost use Rattle.optics.specs.Check.{check_surface};
 ghost use Rattle.counter.specs.Counter as Counter;
 ghost use Rattle.numbers.specs.Refusal.{answer};
-ghost use Rattle.rulvimba.specs.Surfaces.{roughness_of, surface_of, surface_record, surface_with, surface_result};
+ghost use Rattle.rulvimba.specs.Surfaces.{surface_of, surface_record, surface_with, surface_result};
 ghost use Rattle.rulvimba.specs.Results.{check_number};
 
 use crate::records;
@@ -35,7 +35,7 @@ pub struct SurfaceResult {
 impl From<SurfaceRecord> for Surface {
     ghost from_gives = { λ r s. s ≡ surface_of r };
 
-    #[tactic(auto, unfolding(crate::specs::Surfaces::surface_of, crate::specs::Surfaces::roughness_of, optics::specs::Surface::kind_read, optics::specs::Surface::kind_of))]
+    #[tactic(auto, unfolding(crate::specs::Surfaces::surface_of, optics::specs::Surface::roughness_of, optics::specs::Surface::kind_read, optics::specs::Surface::kind_of))]
     fn from(record: SurfaceRecord) -> Surface {
         match Kind::try_from(record.kind) {
             Ok(kind) => Surface {
@@ -92,7 +92,7 @@ impl From<Result<Surface, Refusal>> for SurfaceResult {
     }
 }
 
-#[tactic(auto, unfolding(crate::specs::Surfaces::roughness_of, optics::specs::Surface::kind_read, optics::specs::Surface::kind_of, numbers::specs::Refusal::number))]
+#[tactic(auto, unfolding(optics::specs::Surface::roughness_of, optics::specs::Surface::kind_read, optics::specs::Surface::kind_of, numbers::specs::Refusal::number))]
 fn made(kind: u64, roughness: f64, spectra: &Spectra<'_>) -> Result<Surface, Refusal>
     ensures { answer result ≡ Counter.make_surface (kind_of kind) (roughness_of kind roughness) spectra.now.eta spectra.now.k (medium spectra.now.outer) }
 {

@@ -3,6 +3,7 @@
 // So each export has the name and the promise of the function of the crate rulvimba that it calls.
 #![tactic(auto)]
 
+mod books;
 mod bounces;
 mod lists;
 mod paths;

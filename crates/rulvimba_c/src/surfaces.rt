@@ -1,9 +1,9 @@
 // Making and checking a surface.
 ghost use Rattle.std.specs.Prelude.{◌≡◌};
-ghost use Rattle.optics.specs.Surface.{kind_of, medium};
+ghost use Rattle.optics.specs.Surface.{kind_of, roughness_of, medium};
 ghost use Rattle.optics.specs.Check.{check_surface};
 ghost use Rattle.counter.specs.Counter as Counter;
-ghost use Rattle.rulvimba.specs.Surfaces.{roughness_of, surface_with, surface_result};
+ghost use Rattle.rulvimba.specs.Surfaces.{surface_with, surface_result};
 ghost use Rattle.rulvimba.specs.Results.{check_number};
 
 use rulvimba::surfaces::{SurfaceRecord, SurfaceResult};
