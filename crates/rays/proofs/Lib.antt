@@ -1,2 +1,2 @@
--- The laws of what a job holds.
-pub mod Held
+-- The laws of the paths that a job holds.
+pub mod Paths

@@ -1,16 +1,8 @@
--- What a job holds between two lines: surfaces and paths, each in as many places as there are. Definitions only.
-use Rattle.std.specs.Prelude.{ℕ, ◌%◌, List, Option, None, Some, get_or, set}
+-- The paths that a job holds. Definitions only.
+use Rattle.std.specs.Prelude.{ℕ, List, Option}
 use Rattle.path.specs.declared.records.Path.{Path}
+use Rattle.jobs.specs.Held.{held_in, keep_held}
 
--- what is held as i at one of n places; none where nothing is
-abbrev pub held_in : {A : Type 0} → List (Option A) → ℕ → ℕ → Option A
-held_in places n i = get_or places (i % n) None
-
--- the places with x held as i
-abbrev pub keep_held : {A : Type 0} → List (Option A) → ℕ → ℕ → A → List (Option A)
-keep_held places n i x = set places (i % n) (Some x)
-
--- ---- paths
 abbrev pub path_count : ℕ
 path_count = 1024
 

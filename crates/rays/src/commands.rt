@@ -1,21 +1,26 @@
 // The commands of a job. Each reads its line and calls the model; what it answers is then written in one place.
 ghost use Rattle.std.specs.Prelude.{◌≡◌, MatchOption, None, Some};
-ghost use Rattle.path.specs.Answer.{outcome, bounce, path_of};
+ghost use Rattle.path.specs.Answer.{outcome, path_of};
+ghost use Rattle.book.specs.Record.{offered};
+ghost use Rattle.book_path.specs.BookBounce.{bounce_on_book};
 ghost use Rattle.path.specs.declared.records.Path.{Path};
 ghost use Rattle.rays.specs.Store.{path_in, keep_path};
 
 use crate::replies::{Measure, Reply};
-use crate::store::{Entries, Made, Places};
-use crate::{list, replies, sizes};
+use crate::sizes::{PATH, PATHS};
+use crate::{list, replies};
+use book::record::Record;
+use book::{BOOK_MAX, SURFACES_MAX, reading};
 use candidates::owned::List;
-use numbers::dense_spectrum::DenseSpectrum;
+use jobs::places::Places;
+use jobs::{file, sizes, surface};
 use numbers::vec3::Vec3;
 use optics::bxdf::dielectric;
 use optics::color::Color;
 use optics::microfacet;
-use optics::microfacet::{Kind, Microsurface, Spectra};
-use path::bsdf;
+use optics::microfacet::{Kind, Microsurface};
 use path::records::{Bounce, Bounced, Path};
+use std::fs::Files;
 use text::answers;
 use text::answers::Outcome;
 use text::faults::{Fault, Wrong};
@@ -30,21 +35,12 @@ fn at_word(word: u64, wrong: Wrong) -> Fault {
 // What a job holds between two lines.
 #[derive(Drop)]
 pub struct Job {
-    surfaces: Places<Made, { sizes::SURFACES }>,
-    paths: Places<Path, { sizes::PATHS }>,
+    surfaces: Places<Record, { sizes::SURFACES }>,
+    paths: Places<Path, PATHS>,
     list: List,
 }
 
 // ---- words of a line
-
-// By hand: a `TryFrom` of a word for optics' `Kind` can stand in optics alone, which knows no words of a job.
-fn kind(line: &mut Line<'_>) -> Result<Kind, Fault> {
-    match line.word()? {
-        b"metal" => Ok(Kind::Metal),
-        b"glass" => Ok(Kind::Glass),
-        _ => Err(line.wrong(Wrong::Kind)),
-    }
-}
 
 fn vec3(line: &mut Line<'_>) -> Result<Vec3, Fault> {
     Ok(Vec3 {
@@ -78,35 +74,7 @@ fn bounce_of(line: &mut Line<'_>) -> Result<Bounce, Fault> {
     })
 }
 
-// The word `name` and the entries of a spectrum.
-fn spectrum(line: &mut Line<'_>, name: &[u8], missing: Wrong) -> Result<Entries, Fault> {
-    line.keyword(name, missing)?;
-    Entries::read(line)
-}
-
-// The outer spectrum, where the line has one, and else the 1.0 of air. Metal has none, whatever its line
-// says.
-fn outer(line: &mut Line<'_>, kind: Kind) -> Result<Entries, Fault> {
-    let mut given = Entries::lone(1.0);
-    if line.optional(b"outer") {
-        given = Entries::read(line)?;
-    }
-    match kind {
-        Kind::Metal => Ok(Entries::none()),
-        Kind::Glass => Ok(given),
-    }
-}
-
 // ---- surfaces
-
-// How many entries a lone one stands for: as many as the first spectrum that is a table has, and where none
-// is, as many as lumo's.
-fn samples(spectra: [DenseSpectrum<'_>; 3]) -> usize {
-    spectra
-        .iter()
-        .find(|spectrum| spectrum.is_table())
-        .map_or(DenseSpectrum::SAMPLES, |spectrum| spectrum.values.len())
-}
 
 // Smooth facets send light into one direction whatever the index, which is then not read: that takes a pass
 // over the outer spectrum.
@@ -138,20 +106,20 @@ fn measure_on(m: &Microsurface<'_>, leading: f64) -> Measure {
 // before if the bounce is refused. None if none is held.
 #[tactic(auto, using(path::proofs::Outcome::path_carried))]
 fn bounce_held(
-    paths: &mut Places<Path, { sizes::PATHS }>,
+    paths: &mut Places<Path, PATHS>,
     p: u64,
-    m: &Microsurface<'_>,
+    surface: &Record,
     b: Bounce,
 ) -> Option<Bounced>
     ensures { MatchOption result
         ((path_in paths.old.held p ≡ None) × (paths.new.held ≡ paths.old.held))
         (λ r. (before : Path)
         × ((path_in paths.old.held p ≡ Some before)
-        × ((outcome r ≡ bounce before m.now b)
+        × ((outcome r ≡ bounce_on_book before (offered surface.now) b)
         × (paths.new.held ≡ keep_path paths.old.held p (path_of (outcome r)))))) }
 {
     let before = *paths.get(p)?;
-    let answer = bsdf::bounce(before, m, b);
+    let answer = book_path::bounce(before, surface, b);
     paths.keep(p, answer.path);
     Some(answer)
 }
@@ -165,39 +133,45 @@ impl Job {
         }
     }
 
-    // surface INDEX KIND ROUGHNESS eta ENTRIES k ENTRIES [outer ENTRIES]
+    // surface INDEX KIND [two-sided] ROUGHNESS eta ENTRIES k ENTRIES [outer ENTRIES]
     fn surface(&mut self, line: &mut Line<'_>) -> Result<Reply, Fault> {
-        let i = line.index(sizes::SURFACE)?;
-        let kind = kind(line)?;
-        let roughness = line.number()?;
-        let mut eta = spectrum(line, b"eta", Wrong::Eta)?;
-        let mut k = spectrum(line, b"k", Wrong::K)?;
-        let mut outer = outer(line, kind)?;
-        line.end()?;
-        let samples = samples([eta.spectrum(), k.spectrum(), outer.spectrum()]);
-        eta.spread(samples);
-        k.spread(samples);
-        outer.spread(samples);
-        let spectra = Spectra {
-            eta: eta.spectrum(),
-            k: k.spectrum(),
-            outer: outer.spectrum(),
-        };
-        let check = counter::make_surface(kind, roughness, &spectra).map(|surface| {
-            let made = Made {
-                surface,
-                eta,
-                k,
-                outer,
-            };
-            self.surfaces.keep(i, made);
-        });
+        let (i, made) = surface::read(line)?;
+        let check = made.map(|surface| self.surfaces.keep(i, surface));
         Ok(Reply::Surface(i, check))
+    }
+
+    // Keeps the surfaces of a book from an index on, and says how many they are; none is kept where there aren't as many
+    // places.
+    fn keep_all(&mut self, i: u64, surfaces: &[Record]) -> Option<usize> {
+        if sizes::SURFACES.saturating_sub(i as usize) < surfaces.len() {
+            return None;
+        }
+        for (place, surface) in (i..).zip(surfaces) {
+            self.surfaces.keep(place, *surface);
+        }
+        Some(surfaces.len())
+    }
+
+    // book INDEX FILE
+    fn book(&mut self, files: &impl Files, line: &mut Line<'_>) -> Result<Reply, Fault> {
+        let i = line.index(sizes::SURFACE)?;
+        let name = line.word()?;
+        line.end()?;
+        let mut bytes = [0u8; BOOK_MAX + 1];
+        let n = file::read(files, name, &mut bytes).ok_or(at_word(3, Wrong::NoFile))?;
+        let mut surfaces = [Record::NOTHING; SURFACES_MAX];
+        let count = match reading::read(&bytes[..n], 0, &mut surfaces) {
+            Ok(count) => count,
+            Err(why) => return Ok(Reply::Book(i, Err(why))),
+        };
+        let kept = self.keep_all(i, &surfaces[..count]);
+        let count = kept.ok_or(at_word(2, Wrong::NoPlace))?;
+        Ok(Reply::Book(i, Ok(count)))
     }
 
     // start PATH LAMBDA*4
     fn start(&mut self, line: &mut Line<'_>) -> Result<Reply, Fault> {
-        let i = line.index(sizes::PATH)?;
+        let i = line.index(PATH)?;
         let lambda = color(line)?;
         line.end()?;
         let check = Path::start(lambda).map(|path| self.paths.keep(i, path));
@@ -206,16 +180,16 @@ impl Job {
 
     // bounce PATH SURFACE BACKFACE WO*3 NORMAL*3 U DISK C S KS*4 TF*4
     fn bounce(&mut self, line: &mut Line<'_>) -> Result<Reply, Fault> {
-        let p = line.index(sizes::PATH)?;
+        let p = line.index(PATH)?;
         let s = line.index(sizes::SURFACE)?;
         let b = bounce_of(line)?;
         line.end()?;
         let no_path = at_word(2, Wrong::NoPath);
         let no_surface = at_word(3, Wrong::NoSurface);
         let leading = self.paths.get(p).ok_or(no_path)?.lambda.s0;
-        let m = self.surfaces.get(s).ok_or(no_surface)?.lent();
-        let answer = bounce_held(&mut self.paths, p, &m, b).ok_or(no_path)?;
-        Ok(Reply::Bounce(p, answer, measure_on(&m, leading)))
+        let surface = self.surfaces.get(s).ok_or(no_surface)?;
+        let answer = bounce_held(&mut self.paths, p, surface, b).ok_or(no_path)?;
+        Ok(Reply::Bounce(p, answer, measure_on(&surface.lent(), leading)))
     }
 
     // density SURFACE REFLECTION WO*3 WI*3 LAMBDA
@@ -234,8 +208,14 @@ impl Job {
     }
 
     // The command of a word, of which the rest of its line is to be read.
-    fn command(&mut self, word: &[u8], line: &mut Line<'_>) -> Result<Reply, Fault> {
+    fn command(
+        &mut self,
+        files: &impl Files,
+        word: &[u8],
+        line: &mut Line<'_>,
+    ) -> Result<Reply, Fault> {
         match word {
+            b"book" => self.book(files, line),
             b"bounce" => self.bounce(line),
             b"density" => self.density(line),
             b"start" => self.start(line),
@@ -248,13 +228,19 @@ impl Job {
     }
 
     // Answers the line `number` of a job; `text` is the line without its line feed.
-    pub fn answer(&mut self, text: &[u8], number: u64, out: &mut Output<'_>) -> Outcome {
+    pub fn answer(
+        &mut self,
+        files: &impl Files,
+        text: &[u8],
+        number: u64,
+        out: &mut Output<'_>,
+    ) -> Outcome {
         let mut line = Line::new(text);
         let Ok(word) = line.word() else {
             return Outcome::Nothing;
         };
         out.decimal(number);
-        match self.command(word, &mut line) {
+        match self.command(files, word, &mut line) {
             Ok(reply) => replies::write(out, reply, &self.list),
             Err(fault) => answers::fault(out, fault),
         }

@@ -1,15 +1,18 @@
 // The answers to a job's lines, in the order of the lines, and the figures' last line, as they are written.
 use crate::commands::Job;
-use crate::failure::Failure;
-use crate::sizes;
+use crate::sizes::ANSWER;
+use jobs::answering::Answers;
+use jobs::failure::Failure;
+use jobs::sizes;
 use std::fmt::Write;
+use std::fs::Files;
 use text::answers;
 use text::answers::{Outcome, Tally};
 use text::output::Output;
 
 // `number` is the next line's; `passing`, whether the rest of a line that is too long is being passed over.
 #[derive(Drop)]
-pub struct Figures<'a, P: Print> {
+pub struct Figures<'a, P: Files + Print> {
     rt: &'a P,
     job: Job,
     out: Output<'a>,
@@ -18,7 +21,7 @@ pub struct Figures<'a, P: Print> {
     passing: bool,
 }
 
-impl<'a, P: Print> Figures<'a, P> {
+impl<'a, P: Files + Print> Figures<'a, P> {
     pub fn new(rt: &'a P, out: Output<'a>) -> Figures<'a, P> {
         Figures {
             rt,
@@ -28,15 +31,6 @@ impl<'a, P: Print> Figures<'a, P> {
             tally: Tally::default(),
             passing: false,
         }
-    }
-
-    // Writes the answers that are there.
-    pub fn flush(&mut self) -> Result<(), Failure> {
-        self.rt
-            .write_all(self.out.written())
-            .map_err(Failure::Write)?;
-        self.out.clear();
-        Ok(())
     }
 
     fn too_long(&mut self) -> Outcome {
@@ -50,12 +44,14 @@ impl<'a, P: Print> Figures<'a, P> {
         if sizes::LINE < text.len() {
             return self.too_long();
         }
-        self.job.answer(text, self.number, &mut self.out)
+        self.job.answer(self.rt, text, self.number, &mut self.out)
     }
+}
 
+impl<P: Files + Print> Answers for Figures<'_, P> {
     // Answers a line, once there is room for the answer, or passes over the rest of one.
-    pub fn answer(&mut self, text: &[u8]) -> Result<(), Failure> {
-        if self.out.room() < sizes::ANSWER {
+    fn answer(&mut self, text: &[u8]) -> Result<(), Failure> {
+        if self.out.room() < ANSWER {
             self.flush()?;
         }
         let outcome = self.outcome(text);
@@ -66,7 +62,7 @@ impl<'a, P: Print> Figures<'a, P> {
     }
 
     // Whether a line that begins with `text`, and goes on, is too long, and so passed over.
-    pub fn passes(&mut self, text: &[u8]) -> bool {
+    fn passes(&mut self, text: &[u8]) -> bool {
         if !self.passing && sizes::LINE < text.len() {
             let outcome = self.too_long();
             self.tally.count(outcome);
@@ -75,8 +71,17 @@ impl<'a, P: Print> Figures<'a, P> {
         self.passing
     }
 
+    // Writes the answers that are there.
+    fn flush(&mut self) -> Result<(), Failure> {
+        self.rt
+            .write_all(self.out.written())
+            .map_err(Failure::Write)?;
+        self.out.clear();
+        Ok(())
+    }
+
     // Writes what is left and the last line. Figures without it were cut.
-    pub fn end(&mut self) -> Result<(), Failure> {
+    fn end(&mut self) -> Result<(), Failure> {
         let tally = self.tally;
         let _ = writeln!(self.out, "{tally}");
         self.flush()

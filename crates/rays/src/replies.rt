@@ -32,6 +32,7 @@ impl fmt::Display for Measure {
 #[derive(Clone, Copy)]
 pub enum Reply {
     Surface(u64, Check),
+    Book(u64, Result<usize, Refusal>),
     Start(u64, Check),
     Bounce(u64, Bounced, Measure),
     Density(u64, Result<(f64, Measure), Refusal>),
@@ -49,6 +50,18 @@ fn checked(out: &mut Output<'_>, label: &[u8], index: u64, check: Check) -> Outc
     out.labelled(label, index);
     match check {
         Ok(()) => answers::done(out),
+        Err(why) => refused(out, why),
+    }
+}
+
+// A book by its first surface's index, and how many surfaces were read, or why it is refused.
+fn book(out: &mut Output<'_>, index: u64, surfaces: Result<usize, Refusal>) -> Outcome {
+    out.labelled(b" book ", index);
+    match surfaces {
+        Ok(count) => {
+            out.labelled(b" ok ", count as u64);
+            answers::ended(out)
+        }
         Err(why) => refused(out, why),
     }
 }
@@ -152,6 +165,7 @@ fn listed(out: &mut Output<'_>, list: &List) -> Outcome {
 pub fn write(out: &mut Output<'_>, reply: Reply, list: &List) -> Outcome {
     match reply {
         Reply::Surface(i, check) => checked(out, b" surface ", i, check),
+        Reply::Book(i, surfaces) => book(out, i, surfaces),
         Reply::Start(i, check) => checked(out, b" start ", i, check),
         Reply::Bounce(p, answer, measure) => {
             out.labelled(b" bounce ", p);

@@ -10,8 +10,8 @@ pub enum Failure {
 impl fmt::Display for Failure {
     fn fmt<W: fmt::Write>(&self, f: &mut fmt::Formatter<W>) -> fmt::Result {
         match self {
-            Failure::Read(why) => write!(f, "rays: read: {why}"),
-            Failure::Write(why) => write!(f, "rays: write: {why}"),
+            Failure::Read(why) => write!(f, "read: {why}"),
+            Failure::Write(why) => write!(f, "write: {why}"),
         }
     }
 }

@@ -1,0 +1,2 @@
+-- The laws of what a job holds.
+pub mod Held
