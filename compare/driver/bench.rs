@@ -1,4 +1,5 @@
 //! Times, here and in the Rust: the least of several passes, each over fresh data.
+use super::book;
 use super::candidates::{Listed, Sorted};
 use super::harness::*;
 use super::inputs::{subnormal, Rng};
@@ -6,7 +7,7 @@ use super::library::{run_bounces, Lent};
 use super::numbers::{basis_calls, root_calls, BasisCalls, RootCall};
 use super::optics::{of_surface_calls, OfSurface};
 use super::path::{plain, plain_many, surfaces_of, usual_bounce, usual_path, usual_surface, words_in, Bounce, Bounced, Outside, Path, INS, OUTS};
-use super::rulvimba::{Candidate, Candidates};
+use super::rulvimba::{self, BookSurface, Candidate, Candidates, CountResult};
 use super::surfaces::Surface;
 use super::Function;
 use crate::Vec3;
@@ -354,6 +355,47 @@ fn bench_candidates(rng: &mut Rng) {
     }
 }
 
+/// How often a book is read or written in a pass.
+const BOOKS: usize = 32;
+
+type BookRead = fn(&[u8], usize, &mut [BookSurface]) -> CountResult;
+type BookWrite = fn(&[BookSurface], &mut [u8]) -> CountResult;
+
+/// ns for a book that is read whole.
+#[inline(never)]
+fn read_books(book: &[u8], surfaces: &mut [BookSurface], f: BookRead) -> f64 {
+    let f = black_box(f);
+    timed(BOOKS, || (0..BOOKS).map(|_| f(black_box(book), 0, surfaces).count).sum::<usize>())
+}
+
+#[inline(never)]
+fn write_books(surfaces: &[BookSurface], buffer: &mut [u8], f: BookWrite) -> f64 {
+    let f = black_box(f);
+    timed(BOOKS, || (0..BOOKS).map(|_| f(black_box(surfaces), buffer).count).sum::<usize>())
+}
+
+/// The least of several passes of the two, each first in its turn.
+fn least_of_both(mut pass: impl FnMut(usize) -> f64) -> (f64, f64) {
+    let mut least = [f64::INFINITY; 2];
+    for i in 0..2 * PASSES {
+        let which = (i + i / 2) % 2;
+        least[which] = least[which].min(pass(which));
+    }
+    (least[0], least[1])
+}
+
+fn bench_books(seed: u64) {
+    println!("a material book of 23 surfaces, 65,481 bytes; in Rust in place, the same checks");
+    book::assert_plain(seed, 10_000);
+    for (name, by_last_entry) in [("told apart by roughness", false), ("told apart by the last entry", true)] {
+        let (mut surfaces, mut book) = book::longest(by_last_entry);
+        let (a, b) = least_of_both(|which| read_books(&book, &mut surfaces, [rulvimba::read_book, book::plain_read][which]));
+        line(&format!("a book read, {name}"), a, b);
+        let (a, b) = least_of_both(|which| write_books(&surfaces, &mut book, [rulvimba::write_book, book::plain_write][which]));
+        line(&format!("a book written, {name}"), a, b);
+    }
+}
+
 pub fn bench(seed: u64, functions: &[Function]) {
     let mut rng = Rng(seed);
     let (here, digits, rust) = root_calls();
@@ -385,4 +427,5 @@ pub fn bench(seed: u64, functions: &[Function]) {
     }
     bench_bounces(&mut rng);
     bench_candidates(&mut rng);
+    bench_books(seed);
 }

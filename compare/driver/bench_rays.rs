@@ -52,7 +52,7 @@ impl Light {
     }
 
     fn surface(&self, which: usize) -> &Surface {
-        &self.held.surfaces[which].as_ref().unwrap().surface
+        &self.held.surfaces[which].as_ref().unwrap().of.surface
     }
 
     /// A bounce about any normal; light that comes from a bounce keeps its direction.

@@ -5,7 +5,9 @@ pub use super::rulvimba::Answer;
 use crate::{Vec2, Vec3};
 use std::cell::Cell;
 pub use std::hint::black_box;
+use std::marker::PhantomData;
 use std::panic::{self, catch_unwind, take_hook, AssertUnwindSafe};
+use std::slice::from_ref;
 use std::time::Instant;
 
 /// The one NaN that a word out may be.
@@ -50,12 +52,47 @@ impl<T: Copy> Guarded<T> {
     }
 }
 
+/// Values in a row, with words about them that no call may touch.
+pub struct GuardedRow<T> {
+    words: Vec<u64>,
+    len: usize,
+    of: PhantomData<T>,
+}
+
+impl<T: Copy> GuardedRow<T> {
+    /// How many words stand before them, and how many bytes at least behind.
+    const ABOUT: usize = 4;
+
+    pub fn new(held: &[T]) -> Self {
+        const { assert!(align_of::<T>() <= align_of::<u64>()) };
+        let words = vec![GUARD; 2 * Self::ABOUT + size_of_val(held).div_ceil(8)];
+        let mut row = Self { words, len: held.len(), of: PhantomData };
+        row.held().copy_from_slice(held);
+        row
+    }
+
+    pub fn held(&mut self) -> &mut [T] {
+        unsafe { std::slice::from_raw_parts_mut(self.words[Self::ABOUT..].as_mut_ptr().cast(), self.len) }
+    }
+
+    /// Whether the words about them are as they were, and they are these, byte by byte.
+    pub fn is(&self, must: &[T]) -> bool {
+        let (before, rest) = bytes_of(&self.words).split_at(8 * Self::ABOUT);
+        let (held, after) = rest.split_at(size_of::<T>() * self.len);
+        let guard = |at: usize| GUARD.to_ne_bytes()[at % 8];
+        let is_guard = |bytes: &[u8], from: usize| bytes.iter().enumerate().all(|(i, b)| *b == guard(from + i));
+        held == bytes_of(must) && is_guard(before, 0) && is_guard(after, held.len())
+    }
+}
+
+/// Of values without padding.
+pub fn bytes_of<T: Copy>(values: &[T]) -> &[u8] {
+    unsafe { std::slice::from_raw_parts(values.as_ptr().cast(), size_of_val(values)) }
+}
+
 /// Of values without padding.
 pub fn same_bytes<T: Copy>(a: &T, b: &T) -> bool {
-    fn bytes<T>(x: &T) -> &[u8] {
-        unsafe { std::slice::from_raw_parts((x as *const T).cast(), size_of::<T>()) }
-    }
-    bytes(a) == bytes(b)
+    bytes_of(from_ref(a)) == bytes_of(from_ref(b))
 }
 
 impl Words for f64 {

@@ -1,11 +1,14 @@
 //! `rays` in Rust: a job in, figures out (docs/RAYS.md has the format). It streams as `rays` does, and holds
 //! nothing but the surfaces, the paths and the candidates. The bounce is a parameter: the driver's own answer, or the plain one.
+use super::book;
 use super::harness::bits;
 use super::optics::{density, make_surface, Color, Fields};
 use super::path::{plain, rust, rust_start, Bounce, Bounced, Lumo, Path, LOST, REFLECTED, REFUSED};
+use super::rulvimba::GLASS;
 use super::spectra::SAMPLES;
 use super::surfaces::{is_length, Surface};
 use crate::{Vec2, Vec3};
+use std::fs::File;
 use std::io::{self, BufRead, BufReader, BufWriter, Read, Write};
 
 /// What answers a bounce.
@@ -21,6 +24,7 @@ const PATHS: usize = 1024;
 const CANDIDATES: usize = 64;
 const LINE_MAX: usize = 32768;
 const OUTER: &[u8] = b"outer";
+const TWO_SIDED: &[u8] = b"two-sided";
 
 /// What is wrong with a number.
 const NUMBER: &str =
@@ -145,6 +149,11 @@ impl<'a> Line<'a> {
         }
     }
 
+    /// Whether the next word is the name, which is then passed.
+    fn optional(&mut self, name: &[u8]) -> bool {
+        self.peek() == Some(name) && self.next().is_some()
+    }
+
     fn number(&mut self) -> Reading<f64> {
         match hex(self.word()?) {
             Some(bits) => Ok(f64::from_bits(bits)),
@@ -176,11 +185,7 @@ impl<'a> Line<'a> {
 
     /// Those of the outer spectrum, which is air's where the line has none.
     fn outer(&mut self) -> Reading<Vec<f64>> {
-        if self.peek() != Some(OUTER) {
-            return Ok(vec![1.0]);
-        }
-        self.word()?;
-        self.entries()
+        if self.optional(OUTER) { self.entries() } else { Ok(vec![1.0]) }
     }
 
     fn end(&mut self) -> Reading<()> {
@@ -306,12 +311,40 @@ impl Present {
     }
 }
 
+// ---- surfaces, and books of them, from document 02, (vi)
+
+/// A surface that was made. Two-sided metal ignores a bounce's backface flag, and nothing else asks.
+pub struct Made {
+    pub of: Lumo,
+    two_sided: bool,
+}
+
+impl Made {
+    fn of_book(s: &book::Plain) -> Self {
+        let [x, y] = s.roughness;
+        let of = Lumo::new(s.kind == GLASS, Vec2 { x, y }, &s.eta, &s.k, &s.outer);
+        Self { of, two_sided: s.two_sided }
+    }
+
+    fn backface(&self, flag: bool) -> bool {
+        flag && !(self.two_sided && !self.of.surface.glass)
+    }
+}
+
+/// A file's bytes, the first of one that is too long for a book. None where it can't be read.
+fn file(name: &[u8]) -> Option<Vec<u8>> {
+    let file = File::open(std::str::from_utf8(name).ok()?).ok()?;
+    let mut bytes = vec![];
+    file.take(book::BOOK_MAX as u64 + 1).read_to_end(&mut bytes).ok()?;
+    Some(bytes)
+}
+
 // ---- commands
 
 /// What a job holds.
 pub struct Held {
     answer: Answer,
-    pub surfaces: Vec<Option<Lumo>>,
+    pub surfaces: Vec<Option<Made>>,
     paths: Vec<Option<Path>>,
     present: Present,
 }
@@ -325,6 +358,7 @@ impl Held {
     fn surface(&mut self, line: &mut Line, out: &mut impl Write) -> Reading<Written> {
         let i = line.surface()?;
         let glass = line.is_glass()?;
+        let two_sided = line.optional(TWO_SIDED);
         let roughness = line.number()?;
         line.keyword(b"eta", "the word eta is missing")?;
         let eta = line.entries()?;
@@ -338,9 +372,27 @@ impl Held {
         let [eta, k, outer] = [eta, k, outer].map(|entries| spread(entries, n));
         let made = make_surface(&Fields { kind: glass as u64, a: Vec2::splat(roughness), eta: &eta, k: &k, outer: &outer });
         if made.number == 0 {
-            self.surfaces[i] = Some(Lumo::new(glass, made.value, &eta, &k, &outer));
+            self.surfaces[i] = Some(Made { of: Lumo::new(glass, made.value, &eta, &k, &outer), two_sided });
         }
         Ok(write!(out, " surface {i}").and_then(|_| ok_or_refused(out, made.number)))
+    }
+
+    fn book(&mut self, line: &mut Line, out: &mut impl Write) -> Reading<Written> {
+        let i = line.surface()?;
+        let name = line.word()?;
+        line.end()?;
+        let Some(bytes) = file(name) else { return Err(Fault { word: 3, what: "the file cannot be read" }) };
+        let surfaces = match book::read(&bytes) {
+            Ok(surfaces) => surfaces,
+            Err(number) => return Ok(write!(out, " book {i}").and_then(|_| refused(out, number))),
+        };
+        let Some(places) = self.surfaces.get_mut(i..i + surfaces.len()) else {
+            return Err(Fault { word: 2, what: "the book's surfaces go past the last place" });
+        };
+        for (place, s) in places.iter_mut().zip(&surfaces) {
+            *place = Some(Made::of_book(s));
+        }
+        Ok(answered(out, format!(" book {i} ok {}\n", surfaces.len()).as_bytes()))
     }
 
     fn start(&mut self, line: &mut Line, out: &mut impl Write) -> Reading<Written> {
@@ -359,13 +411,14 @@ impl Held {
         let backface = line.flag()?;
         let (wo, normal) = (line.vec3()?, line.vec3()?);
         let [u, disk, c, s] = line.numbers()?;
-        let b = Bounce { wo, normal, backface, u, disk, c, s, ks: Color(line.numbers()?), tf: Color(line.numbers()?) };
+        let (ks, tf) = (Color(line.numbers()?), Color(line.numbers()?));
         line.end()?;
         let Some(path) = &mut self.paths[i] else { return Err(Fault { word: 2, what: "the path is not started" }) };
-        let Some(of) = &self.surfaces[which] else { return Err(Fault { word: 3, what: "the surface is not made" }) };
-        let a = (self.answer)(path, of, &b);
+        let Some(made) = &self.surfaces[which] else { return Err(Fault { word: 3, what: "the surface is not made" }) };
+        let b = Bounce { wo, normal, backface: made.backface(backface), u, disk, c, s, ks, tf };
+        let a = (self.answer)(path, &made.of, &b);
         *path = a.path;
-        Ok(write!(out, " bounce {i}").and_then(|_| figures(out, &a, &of.surface)))
+        Ok(write!(out, " bounce {i}").and_then(|_| figures(out, &a, &made.of.surface)))
     }
 
     fn density(&mut self, line: &mut Line, out: &mut impl Write) -> Reading<Written> {
@@ -374,11 +427,12 @@ impl Held {
         let (wo, wi) = (line.vec3()?, line.vec3()?);
         let lambda = line.number()?;
         line.end()?;
-        let Some(of) = &self.surfaces[i] else { return Err(Fault { word: 2, what: "the surface is not made" }) };
-        let a = of.surface.judged(|judge| density(judge, wo, wi, reflection, lambda));
+        let Some(made) = &self.surfaces[i] else { return Err(Fault { word: 2, what: "the surface is not made" }) };
+        let of = &made.of.surface;
+        let a = of.judged(|judge| density(judge, wo, wi, reflection, lambda));
         Ok(match a.number {
             0 => labelled(out, format!(" density {i}").as_bytes(), &[a.value])
-                .and_then(|_| out.write_all(measure(&of.surface, lambda)))
+                .and_then(|_| out.write_all(measure(of, lambda)))
                 .and_then(|_| answered(out, b"\n")),
             n => write!(out, " density {i}").and_then(|_| refused(out, n)),
         })
@@ -416,6 +470,7 @@ impl Held {
             b"density" => self.density(&mut line, out),
             b"start" => self.start(&mut line, out),
             b"surface" => self.surface(&mut line, out),
+            b"book" => self.book(&mut line, out),
             b"arrive" => self.arrive(&mut line, out),
             b"depart" => self.depart(&mut line, out),
             b"list" => self.list(&mut line, out),
@@ -485,7 +540,7 @@ pub fn run(job: impl Read, figures: impl Write, answer: Answer) -> io::Result<()
 pub fn program(file: Option<String>, answer: Answer) {
     let out = io::stdout().lock();
     let done = match file {
-        Some(file) => std::fs::File::open(file).and_then(|job| run(job, out, answer)),
+        Some(file) => File::open(file).and_then(|job| run(job, out, answer)),
         None => run(io::stdin().lock(), out, answer),
     };
     if let Err(why) = done {

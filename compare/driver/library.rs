@@ -3,15 +3,16 @@
 //!
 //! Bounces are the lists of path.rs, one by one on a path in memory (`rulvimba_bounce`) and then once more by
 //! surface, many to a call (`rulvimba_bounces`); and once more through path's thin form (`path_bounce_on`), which
-//! takes the same records. Lists of candidates stand in candidates.rs, the other calls in the tables of numbers.rs and
-//! optics.rs.
+//! takes the same records. Lists of candidates stand in candidates.rs, material books in book.rs, the other calls in the
+//! tables of numbers.rs and optics.rs.
+use super::book;
 use super::candidates;
 use super::harness::*;
 use super::inputs::{Rng, Slot};
 use super::judge::Tables;
 use super::lengths;
-use super::optics::{other_kind, Color};
-use super::path::{report, rust_start, start_input, walk, words_in, Bounce, Bounced, Density, Lumo, Path, Shares, Subject, INS, OUTS};
+use super::optics::{caught, other_kind, Color};
+use super::path::{report, rust, rust_start, start_input, walk, words_in, Bounce, Bounced, Density, Lumo, Path, Shares, Subject, INS, OUTS};
 use super::rulvimba::{self, BounceArgs, BounceResult, DirectionResult, Spectra, BOUNCE_IN, BOUNCE_OUT};
 use super::spectra::{FINE_SAMPLES, SAMPLES};
 use super::surfaces::Surface;
@@ -293,6 +294,11 @@ struct Library {
     other_kinds: usize,
     /// Differences in them, and in memory that a bounce had to keep.
     aside: usize,
+    /// Bounces on a book's surface, how many of them on two-sided metal's backface, and the differences.
+    book_rng: Rng,
+    on_books: usize,
+    on_backfaces: usize,
+    book_differences: usize,
     many: usize,
     calls: usize,
     many_differences: usize,
@@ -300,7 +306,19 @@ struct Library {
 
 impl Library {
     fn new(seed: u64) -> Self {
-        Self { rng: Rng(seed ^ 0x11b), waiting: vec![], other_kinds: 0, aside: 0, many: 0, calls: 0, many_differences: 0 }
+        Self {
+            rng: Rng(seed ^ 0x11b),
+            waiting: vec![],
+            other_kinds: 0,
+            aside: 0,
+            book_rng: Rng(seed ^ 0xb0c),
+            on_books: 0,
+            on_backfaces: 0,
+            book_differences: 0,
+            many: 0,
+            calls: 0,
+            many_differences: 0,
+        }
     }
 
     fn one(&mut self, kind: u64, s: &Surface, p: &Path, b: &Bounce) -> (Bounced, [u64; OUTS]) {
@@ -316,6 +334,46 @@ impl Library {
             self.aside += 1;
             if self.aside <= 3 {
                 report(&format!("rulvimba_bounce on kind {kind}"), p, of, b, &words, Some(&rust));
+            }
+        }
+    }
+
+    /// Now and then the bounce on the book's surface that stands for this one, and on a backface of metal always. Two-sided
+    /// metal ignores the backface, so the Rust has it false there; and a roughness that isn't as it was given is refused as 1.
+    fn on_book(&mut self, of: &Lumo, p: &Path, b: &Bounce, judge: &Bounced) {
+        let rng = &mut self.book_rng;
+        let is_backface = b.backface && !of.surface.glass;
+        if rng.below(8) > 0 && !is_backface {
+            return;
+        }
+        let Some(mut s) = book::of_surface(rng, &of.surface) else {
+            return;
+        };
+        let is_ignored = is_backface && s.two_sided != 0;
+        let must = if rng.below(16) == 0 {
+            match rng.below(3) {
+                0 => s.given = 1f64.next_up(),
+                1 => s.roughness.y = s.roughness.y.next_up(),
+                _ => s.kind = other_kind(rng),
+            }
+            refused(1, p)
+        } else if is_ignored {
+            match caught(|| rust(p, of, &Bounce { backface: false, ..*b })) {
+                Some(judge) => judge,
+                None => return,
+            }
+        } else {
+            *judge
+        };
+        self.on_books += 1;
+        self.on_backfaces += (is_ignored && must.number == 0) as usize;
+        let (mut path, kept) = (Guarded::new(c8(p)), s);
+        let r = rulvimba::book_bounce(&mut path.held, &s, arguments(b));
+        let words = words(&r, &path.held);
+        if words != must.words() || !path.is_kept(&c8(p), r.number != 0) || !same_bytes(&s, &kept) {
+            self.book_differences += 1;
+            if self.book_differences <= 3 {
+                report(&format!("rulvimba_book_bounce, two_sided {}, given {:?}", s.two_sided, s.given), p, of, b, &words, Some(&must));
             }
         }
     }
@@ -359,6 +417,7 @@ impl Subject for Library {
         if let Some(rust) = rust {
             let row = Row::new(&mut self.rng, p, b, rust);
             self.waiting[which].push(row);
+            self.on_book(of, p, b, rust);
         }
         // else they wait until the surfaces change
         if self.rng.below(64) == 0 {
@@ -389,11 +448,15 @@ pub fn compare_bounces(seed: u64, tables: Tables, count: usize) -> (usize, usize
     c.print(Library::NAME, tables);
     println!("  on kinds that are neither metal nor glass {}; differences there and in memory that must be kept {}", library.other_kinds, library.aside);
     println!(
+        "{:<44} {:>9} bounces {:>5} differences from the same answers, {} of them on a backface of two-sided metal",
+        "rulvimba_book_bounce", library.on_books, library.book_differences, library.on_backfaces
+    );
+    println!(
         "{:<44} {:>9} bounces {:>5} differences from {}, in {} calls",
         "rulvimba_bounces", library.many, library.many_differences, c.judges(tables), library.calls
     );
     let run = if tables.entries == FINE_SAMPLES { c.fine } else { c.bounces };
-    (run, c.faults() + library.aside + library.many_differences)
+    (run, c.faults() + library.aside + library.book_differences + library.many_differences)
 }
 
 // ---- starts
@@ -425,8 +488,8 @@ pub fn compare_starts(seed: u64, count: usize) -> usize {
 // ---- all of it
 
 /// `bounces` bounces in air through both calls on 95 entries, as many with outer spectra, half of them on 471 entries, and
-/// as many calls on lists of candidates; a tenth as many in air on 471 entries and for each of the other calls. Answers the
-/// number of differences.
+/// as many calls on lists of candidates; a tenth as many in air on 471 entries, books that are read, lists of surfaces that
+/// are written, and inputs for each of the other calls. Answers the number of differences.
 pub fn compare(seed: u64, bounces: usize) -> usize {
     let each = bounces / 10;
     let mut others = each;
@@ -439,6 +502,8 @@ pub fn compare(seed: u64, bounces: usize) -> usize {
     differences += lengths::compare();
     let (listed, of_lists) = candidates::compare(seed, bounces, each);
     differences += of_lists;
+    let (books, of_books) = book::compare(seed, each);
+    differences += of_books;
     let mut run = |tables, count| {
         let (run, of_bounces) = compare_bounces(seed, tables, count);
         differences += of_bounces;
@@ -447,7 +512,7 @@ pub fn compare(seed: u64, bounces: usize) -> usize {
     let in_air = [run(Tables::in_air(SAMPLES), bounces), run(Tables::in_air(FINE_SAMPLES), each)];
     let outer = [run(Tables::any_outer(SAMPLES), bounces / 2), run(Tables::any_outer(FINE_SAMPLES), bounces / 2)];
     println!(
-        "compare: librulvimba: {} bounces on 95 entries, {} on 471, {} and {} with outer spectra, {listed} calls on lists of candidates, {others} other calls, {differences} differences, seed {seed}",
+        "compare: librulvimba: {} bounces on 95 entries, {} on 471, {} and {} with outer spectra, {listed} calls on lists of candidates, {books} on material books, {others} other calls, {differences} differences, seed {seed}",
         in_air[0],
         in_air[1],
         outer[0],

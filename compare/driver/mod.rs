@@ -7,6 +7,7 @@
 //! --bench-rays: times and memory of both programs.
 mod bench;
 mod bench_rays;
+mod book;
 mod candidates;
 #[macro_use]
 mod harness;
@@ -48,6 +49,7 @@ fn compare(seed: u64, count: usize, fine_outer: usize) -> usize {
     differences += lengths::compare();
     differences += library::compare_starts(seed, count);
     differences += candidates::compare(seed, count, count).1;
+    differences += book::compare(seed, count).1;
     for (tables, through_library, thin) in [
         (Tables::in_air(SAMPLES), count * 5, count * 5),
         (Tables::in_air(FINE_SAMPLES), count, count),
@@ -74,6 +76,11 @@ fn sample(seed: u64, folder: &str) {
         std::fs::write(&file, &records).unwrap();
         println!("compare: {} records in {file}", records.lines().count());
     }
+    let (files, calls) = book::sample();
+    for (name, bytes) in &files {
+        std::fs::write(format!("{folder}/replay_books/data/{name}"), bytes).unwrap();
+    }
+    println!("compare: {calls} calls on {} books in {folder}/replay_books/data", files.len() - 1);
 }
 
 pub fn main() {
