@@ -14,11 +14,13 @@ SURFACES = 64
 PATHS = 1024
 CANDIDATES = 64
 IDS = 65536
+BOOK_SURFACES = 42  # the most that a book has
+BOOK_MAX = 65536  # bytes of a book
 WAVELENGTHS = (360, 830)  # nm
 TABLES = {95: 5, 471: 1}  # entries of a spectrum from 360 nm on, and how many nm apart they are
 LINE_MAX = 32768  # bytes of a job's line without its line feed, and more than a line of figures takes
 
-COMMANDS = ("surface", "start", "bounce", "density", "arrive", "depart", "list")
+COMMANDS = ("surface", "book", "start", "bounce", "density", "arrive", "depart", "list")
 UNITS = ("per-sr", "probability")
 
 # Why a line is refused, by its number (the table of docs/RAYS.md).
@@ -35,7 +37,8 @@ GROUNDS = {
     10: "a power is not from 0 to 1",
     11: "the list is full: 64 candidates are present",
     12: "the id that arrives is present already, or the one that departs is not",
-    13: "glass's outer spectrum is not one entry or as many as eta counts, each from 0.01 to 100",
+    13: "glass's outer spectrum is not one entry or as many as eta counts, each from 0.01 to 100, and in a book each 1.0",
+    14: "the book has another layout, or two equal surfaces; or is too long to be written",
 }
 
 # What is wrong with a line that is no command.
@@ -53,6 +56,8 @@ FAULTS = {
     "the line goes on",
     "the path is not started",
     "the surface is not made",
+    "the file cannot be read",
+    "the book's surfaces go past the last place",
     f"a line is at most {LINE_MAX} bytes",
 }
 
@@ -224,9 +229,19 @@ class Words:
             return words
         return [self.number() for _ in range(count)]
 
+    def file(self):
+        word = self.next("a file")
+        if not FILE.fullmatch(word):
+            raise self.wrong(f"word {self.at} is {shown(word)} where a file's name, one word of UTF-8, should stand")
+        return word
+
     def end(self):
         if self.at < len(self.words):
             raise self.wrong(f"word {self.at + 1} is {shown(self.words[self.at])} where the line should end")
+
+
+# a word of UTF-8 without characters that control a terminal or end a line; one that begins with # is a comment
+FILE = re.compile("(?!#)[^ \x00-\x1f\x7f-\x9f\u2028\u2029\ud800-\udfff]+")
 
 
 class JobWords(Words):
@@ -314,6 +329,8 @@ class Command(NamedTuple):
     index: int = None    # of a candidate its id
     surface: int = None
     kind: str = ""
+    two_sided: bool = False
+    file: str = ""       # of a book
     flag: str = ""
     numbers: tuple = ()
     eta: tuple = ()
@@ -333,6 +350,7 @@ def command(source, line):
 def surface_command(words):
     index = int(words.surface())
     kind = words.choice("metal", "glass")
+    two_sided = words.has("two-sided")
     roughness = words.number()
     words.choice("eta")
     eta = entries(words)
@@ -340,7 +358,8 @@ def surface_command(words):
     k = entries(words)
     outer = tuple(entries(words)) if words.has("outer") else None
     words.end()
-    return Command("surface", index, index, kind, numbers=(roughness,), eta=tuple(eta), k=tuple(k), outer=outer)
+    return Command("surface", index, index, kind, two_sided, numbers=(roughness,), eta=tuple(eta), k=tuple(k),
+                   outer=outer)
 
 
 def entries(words):
@@ -348,6 +367,13 @@ def entries(words):
     while words.is_entry(end):
         end += 1
     return words.numbers(end - words.at) if end > words.at else []
+
+
+def book_command(words):
+    index = int(words.surface())
+    file = words.file()
+    words.end()
+    return Command("book", index, index, file=file)
 
 
 def start_command(words):
@@ -392,8 +418,8 @@ def list_command(words):
     return Command("list")
 
 
-READERS = {"surface": surface_command, "start": start_command, "bounce": bounce_command, "density": density_command,
-           "arrive": arrive_command, "depart": depart_command, "list": list_command}
+READERS = {"surface": surface_command, "book": book_command, "start": start_command, "bounce": bounce_command,
+           "density": density_command, "arrive": arrive_command, "depart": depart_command, "list": list_command}
 
 
 # ---- figures
@@ -418,6 +444,7 @@ class Figure(NamedTuple):
     wavelengths: tuple = ()
     powers: tuple = ()
     listed: tuple = ()   # from the top
+    count: int = None    # of the surfaces that a book has
 
 
 class Counts(NamedTuple):
@@ -514,6 +541,15 @@ def made(words, figure):
     return refused(words, figure) if answer == "refused" else Figure(*figure[:3], answer)
 
 
+def booked(words, figure):
+    """A book's surfaces stand from its index on, none past the last place."""
+    answer = words.choice("ok", "refused")
+    if answer == "refused":
+        return refused(words, figure)
+    most = min(BOOK_SURFACES, SURFACES - figure.index)
+    return Figure(*figure[:3], answer, count=int(words.index(most + 1, "the number of surfaces")))
+
+
 def bounced(words, figure):
     answer = words.choice("lost", "reflected", "passed", "refused")
     if answer == "refused":
@@ -564,8 +600,8 @@ def listed(words, figure):
     return Figure(*figure[:3], "ok", listed=tuple(Listed(*pair) for pair in found.items()))
 
 
-OUTCOMES = {"surface": made, "start": made, "bounce": bounced, "density": found_density, "arrive": made, "depart": made,
-            "list": listed}
+OUTCOMES = {"surface": made, "book": booked, "start": made, "bounce": bounced, "density": found_density,
+            "arrive": made, "depart": made, "list": listed}
 
 
 # ---- a job beside its figures
@@ -610,6 +646,18 @@ def answered_command(job, line, figure):
     return found
 
 
+def surfaces_made(figure, command):
+    """The surfaces that a line of a job made, each with what is said of it."""
+    if figure.answer != "ok":
+        return
+    if command.name == "surface":
+        kind = f"{command.kind}, two-sided" if command.two_sided else command.kind
+        yield command.index, f"{kind}, roughness {decimal(command.numbers[0])}"
+    if command.name == "book":
+        for i in range(figure.count):
+            yield command.index + i, f"{i + 1} of {figure.count} in {shown(command.file)}"
+
+
 def titled(name, index):
     return name if index is None else f"{name} {index}"
 
@@ -625,7 +673,7 @@ def can_have(found, refusal):
 def is_within_limits(found):
     """Whether a command has numbers with which it can be answered: all but spectra, circle pairs and filters."""
     x = doubles(found.numbers)
-    if found.name in ("depart", "list"):
+    if found.name in ("book", "depart", "list"):
         return True
     if found.name == "arrive":
         return 0 <= x[0] < float("inf")
@@ -643,6 +691,45 @@ def is_wavelength(x):
 
 def is_direction(x, y, z):
     return 0.999999 <= x * x + y * y + z * z <= 1.000001
+
+
+# ---- the programs that tools run
+
+def program_of(variable, name):
+    """The program that an environment variable names, or else the one of this repository."""
+    root = os.path.dirname(os.path.dirname(os.path.abspath(__file__)))
+    return os.environ.get(variable, os.path.join(root, "target", "bin", name))
+
+
+def not_run(program, name, why):
+    return Wrong(f"{program}: {why.strerror} (`tools/build {name}` builds it)")
+
+
+def opened_job(name):
+    """The file descriptor of a job, which a program gets as its standard input; - is standard input."""
+    try:
+        if name == "-":
+            os.fstat(0)
+            return 0
+        if os.path.isdir(name):
+            raise Wrong(f"{name}: Is a directory")
+        return os.open(name, os.O_RDONLY)
+    except OSError as why:
+        raise Wrong(f"{'standard input' if name == '-' else name}: {why.strerror}") from None
+
+
+def is_job(name, job):
+    """Whether a file that is to be written is the job itself, which would be lost."""
+    return os.path.exists(name) and os.path.samestat(os.stat(name), os.fstat(job))
+
+
+def ended_well(name, status, said):
+    """Whether a program said nothing on standard error: its status is 0 whatever it met."""
+    text = " ".join(said.decode("utf-8", "replace").split())
+    if status < 0:
+        raise Wrong(f"{name} was stopped by signal {-status}")
+    if text or status:
+        raise Wrong(f"{name} failed: {text or f'status {status}'}")
 
 
 # ---- how a tool runs

@@ -1,7 +1,7 @@
 /*
  * Light at a filled syringe, through the static library: a path enters the glass barrel, goes from the glass into
- * the water, and meets the steel of the needle. The water's index is a published one; the other optical values
- * are illustrative and are no data of a material.
+ * the water, and meets the steel of the needle. At the end a material book has its surfaces. The water's index is a
+ * published one; the other optical values are illustrative and are no data of a material.
  *
  *   syringe           prints the path, and must print examples/expected
  *   syringe --bench   times rulvimba_bounces
@@ -18,11 +18,15 @@
 #define ENTRIES RULVIMBA_SAMPLES
 #define FINE RULVIMBA_FINE_SAMPLES
 #define MANY 1000
+#define MATERIALS 4
 
 static double glass_eta[ENTRIES], glass_k[ENTRIES], steel_eta[ENTRIES], steel_k[ENTRIES];
-static double air[ENTRIES], water[ENTRIES];
+static double foil_eta[ENTRIES], foil_k[ENTRIES], air[ENTRIES], water[ENTRIES];
 static double fine_eta[FINE], fine_k[FINE], fine_air[FINE];
 static double input[MANY * RULVIMBA_BOUNCE_IN], output[MANY * RULVIMBA_BOUNCE_OUT];
+static rulvimba_book_surface materials[MATERIALS], read_back[RULVIMBA_BOOK_SURFACES];
+static uint8_t book[RULVIMBA_BOOK_MAX], other_book[RULVIMBA_BOOK_MAX];
+static const rulvimba_color wavelengths = {450.0, 530.0, 610.0, 690.0};
 
 /* The spectra of a surface, which are lent with it in each call. Outside the barrel is air, and inside it water: both
  * walls are glass, with a normal that points out of it. Metal has no outer spectrum, so that none is lent. */
@@ -31,6 +35,7 @@ static const spectra of_outer_wall = {glass_eta, glass_k, air, ENTRIES, ENTRIES}
 static const spectra of_inner_wall = {glass_eta, glass_k, water, ENTRIES, ENTRIES};
 static const spectra of_fine_wall = {fine_eta, fine_k, fine_air, FINE, FINE};
 static const spectra of_steel = {steel_eta, steel_k, air, ENTRIES, 0};
+static const spectra of_foil = {foil_eta, foil_k, air, ENTRIES, 0};
 #define LENT(s) (s).eta, (s).len, (s).k, (s).len, (s).outer, (s).outer_len
 
 /* The refraction index of water at 20 degrees C, by the formula of Daimon and Masumura, Applied Optics 46 (2007),
@@ -196,6 +201,91 @@ static void snell(rulvimba_vec3 wo, rulvimba_vec3 wi, double wavelength) {
            n_glass, in_glass, a, n_water, in_water, b, fabs(a - b) < 1e-15 ? "yes" : "no");
 }
 
+/* a surface for a book: it has the roughness as it is given beside the raised one, and its spectra with it */
+static rulvimba_book_surface for_book(uint64_t kind, bool two_sided, double roughness, spectra s) {
+    rulvimba_surface made = make(kind, roughness, s);
+    rulvimba_book_surface b = {.kind = kind, .two_sided = two_sided, .given = roughness, .entries = s.len};
+    b.roughness = made.roughness;
+    memcpy(b.eta, s.eta, s.len * sizeof b.eta[0]);
+    memcpy(b.k, s.k, s.len * sizeof b.k[0]);
+    memcpy(b.outer, s.outer, s.outer_len * sizeof b.outer[0]);
+    return b;
+}
+
+/* a book of the needle's steel, the outer wall's glass and the aluminium foil of the pouch that the syringe comes in,
+ * metal with two sides. The glass is handed in once more with a roughness of 0.00001, to which 0.0 is raised: the two
+ * are equal, and the second is left out. Returns how many bytes the book has */
+static size_t write_materials(void) {
+    materials[0] = for_book(RULVIMBA_METAL, false, 0.3, of_steel);
+    materials[1] = for_book(RULVIMBA_GLASS, false, 0.0, of_outer_wall);
+    materials[2] = for_book(RULVIMBA_METAL, true, 0.1, of_foil);
+    materials[3] = for_book(RULVIMBA_GLASS, false, 0.00001, of_outer_wall);
+    rulvimba_count_result written = rulvimba_write_book(materials, MATERIALS, book, sizeof book);
+    uint64_t sum = 0;
+    for (size_t i = 0; i < written.count; i++)
+        sum = sum * 31 + book[i];
+    printf("a book of %d surfaces: %" PRIu64 ", %zu bytes; sum of the bytes %016" PRIx64 "\n", MATERIALS, written.number,
+           written.count, sum);
+    return written.count;
+}
+
+/* whether light has the same answer on a book's surface as on the surface itself, and the same path after it */
+static const char *same_bounce(const rulvimba_book_surface *of_book, rulvimba_surface surface, spectra s,
+                               rulvimba_bounce_args args) {
+    rulvimba_path p, q;
+    rulvimba_start(&p, wavelengths);
+    q = p;
+    rulvimba_bounce_result a = rulvimba_book_bounce(&p, of_book, args), b = rulvimba_bounce(&q, surface, LENT(s), args);
+    return memcmp(&a, &b, sizeof a) == 0 && memcmp(&p, &q, sizeof p) == 0 ? "yes" : "no";
+}
+
+/* the book is read; light bounces on its surfaces, and any other call takes them with their own spectra */
+static void read_materials(size_t len, rulvimba_surface steel, rulvimba_surface glass, rulvimba_bounce_args args) {
+    rulvimba_count_result r = rulvimba_read_book(book, len, 0, read_back, RULVIMBA_BOOK_SURFACES);
+    printf("  read: %" PRIu64 ", %zu surfaces", r.number, r.count);
+    r = rulvimba_write_book(read_back, r.count, other_book, sizeof other_book);
+    printf("; written again: %" PRIu64 ", the same bytes: %s\n", r.number,
+           r.count == len && memcmp(book, other_book, len) == 0 ? "yes" : "no");
+    printf("  a bounce as on the surface itself: steel %s, glass %s\n",
+           same_bounce(&read_back[0], steel, of_steel, args), same_bounce(&read_back[1], glass, of_outer_wall, args));
+    const rulvimba_book_surface *b = &read_back[1];
+    spectra s = {b->eta, b->k, b->outer, b->entries, b->entries};
+    rulvimba_surface surface = rulvimba_surface_of_book(b);
+    rulvimba_float_result f = rulvimba_fresnel_at(surface, LENT(s), args.wo, args.normal, 530.0);
+    printf("  the glass: roughness %.5f as given, %.5f raised; fresnel: %" PRIu64 " %.6f\n", b->given, b->roughness.x,
+           f.number, f.value);
+}
+
+/* light that meets metal from behind, with the backface flag: the foil reflects it, and on the steel it is lost */
+static void from_behind(rulvimba_bounce_args args) {
+    args.wo.z = -args.wo.z;
+    args.backface = true;
+    rulvimba_path path;
+    rulvimba_start(&path, wavelengths);
+    rulvimba_bounce_result r = rulvimba_book_bounce(&path, &read_back[2], args);
+    print_bounce("foil from behind", r, &path);
+    r = rulvimba_book_bounce(&path, &read_back[0], args);
+    print_bounce("steel from behind", r, &path);
+}
+
+/* a book with a wrong byte; a buffer that is a byte too short; and glass that touches water, where a book has air */
+static void refused_books(size_t len) {
+    memcpy(other_book, book, len);
+    other_book[4 + 8 * 3] = 2; /* behind the count and three pairs: the kind of the first surface */
+    rulvimba_count_result r = rulvimba_read_book(other_book, len, 0, read_back, RULVIMBA_BOOK_SURFACES);
+    printf("a damaged byte: %" PRIu64, r.number);
+    memset(other_book, 0xff, len);
+    r = rulvimba_write_book(materials, MATERIALS, other_book, len - 1);
+    size_t kept = 0;
+    for (size_t i = 0; i < len; i++)
+        kept += other_book[i] == 0xff;
+    printf("; a byte too little room: %" PRIu64 ", %zu of %zu bytes kept\n", r.number, kept, len);
+    materials[1] = for_book(RULVIMBA_GLASS, false, 0.0, of_inner_wall);
+    r = rulvimba_write_book(materials, MATERIALS, other_book, sizeof other_book);
+    printf("glass that touches water: to bounce on %" PRIu64 ", in a book %" PRIu64 "\n",
+           rulvimba_check_book_surface(&materials[1]), r.number);
+}
+
 static void bench(const char *name, rulvimba_surface surface, spectra s) {
     for (size_t i = 0; i < MANY; i++)
         fill(input + i * RULVIMBA_BOUNCE_IN, i);
@@ -222,6 +312,8 @@ int main(int argc, char **argv) {
         water[i] = water_index(360.0 + 5.0 * i);
         steel_eta[i] = 2.0 + 0.01 * i;
         steel_k[i] = 3.0 + 0.01 * i;
+        foil_eta[i] = 0.4 + 0.015 * i;
+        foil_k[i] = 4.4 + 0.04 * i;
     }
     for (int i = 0; i < FINE; i++) {
         fine_eta[i] = 1.53 - 0.00004 * i; /* the same glass, 1 nm apart */
@@ -240,8 +332,7 @@ int main(int argc, char **argv) {
     }
 
     rulvimba_path path;
-    rulvimba_color lambda = {450.0, 530.0, 610.0, 690.0};
-    printf("start: %" PRIu64 "\n", rulvimba_start(&path, lambda));
+    printf("start: %" PRIu64 "\n", rulvimba_start(&path, wavelengths));
     print_path(&path);
 
     /* through the barrel: wo points back to the lamp */
@@ -305,7 +396,7 @@ int main(int argc, char **argv) {
     printf("d: %" PRIu64 " %.6f\n", f.number, f.value);
     f = rulvimba_fresnel_at(steel, LENT(of_steel), w, z, 530.0);
     printf("fresnel at one wavelength: %" PRIu64 " %.6f\n", f.number, f.value);
-    rulvimba_color_result fs = rulvimba_fresnel(steel, LENT(of_steel), w, z, lambda);
+    rulvimba_color_result fs = rulvimba_fresnel(steel, LENT(of_steel), w, z, wavelengths);
     printf("fresnel at four: %" PRIu64 " %.6f %.6f %.6f %.6f\n", fs.number, fs.value.s0, fs.value.s1, fs.value.s2, fs.value.s3);
     rulvimba_vec3_result n = rulvimba_sample_normal(steel, LENT(of_steel), w, 0.25, 0.6, 0.8);
     printf("sampled normal: %" PRIu64 " %.6f %.6f %.6f\n", n.number, n.value.x, n.value.y, n.value.z);
@@ -326,5 +417,11 @@ int main(int argc, char **argv) {
     many(rough_glass, of_outer_wall);
     many(rough_glass, of_inner_wall);
     many(steel, of_steel);
+
+    /* surfaces as bytes, for a file */
+    size_t len = write_materials();
+    read_materials(len, steel, glass, barrel);
+    from_behind(barrel);
+    refused_books(len);
     return 0;
 }

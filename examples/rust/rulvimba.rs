@@ -1,6 +1,7 @@
 //! The library in Rust: the declarations of include/rulvimba.h, each behind a safe function. A slice goes
-//! over as its pointer and its length, a path as a `&mut Path`, a list of candidates as its three fields; the
-//! library asks nothing else of its caller but the processor's default float control.
+//! over as its pointer and its length, a path as a `&mut Path`, a list of candidates as its three fields, a
+//! book's surface as a `&BookSurface`; the library asks nothing else of its caller but the processor's default
+//! float control.
 
 #[repr(C)]
 #[derive(Clone, Copy, Debug, Default, PartialEq)]
@@ -136,6 +137,33 @@ pub struct Candidates {
     pub densities: [f64; CANDIDATES],
 }
 
+/// How many bytes a material book has at most, and how many surfaces.
+pub const BOOK_MAX: usize = 65536;
+pub const BOOK_SURFACES: usize = 42;
+
+/// A surface of a material book. The roughness stands as it was given and, as x and y, raised to 1e-5. The first `entries`
+/// places of each spectrum are in use, 95 or 471.
+#[repr(C)]
+#[derive(Clone, Copy, Debug)]
+pub struct BookSurface {
+    pub kind: u64,
+    pub two_sided: u64,
+    pub given: f64,
+    pub roughness: Vec2,
+    pub entries: usize,
+    pub eta: [f64; FINE_SAMPLES],
+    pub k: [f64; FINE_SAMPLES],
+    pub outer: [f64; FINE_SAMPLES],
+}
+
+/// A number, 0 where the call is accepted, and how many surfaces or bytes a book has.
+#[repr(C)]
+#[derive(Clone, Copy, Debug, PartialEq)]
+pub struct CountResult {
+    pub number: u64,
+    pub count: usize,
+}
+
 mod c {
     use super::*;
     type P = *const f64;
@@ -178,6 +206,15 @@ mod c {
         ) -> Answer<f64>;
         pub fn rulvimba_arrive_in(count: *mut usize, ids: *mut u16, densities: *mut f64, c: Candidate) -> u64;
         pub fn rulvimba_depart_in(count: *mut usize, ids: *mut u16, densities: *mut f64, id: u16) -> u64;
+        pub fn rulvimba_read_book(
+            book: *const u8, book_len: usize, first: usize, surfaces: *mut BookSurface, surfaces_len: usize,
+        ) -> CountResult;
+        pub fn rulvimba_write_book(
+            surfaces: *const BookSurface, surfaces_len: usize, buffer: *mut u8, buffer_len: usize,
+        ) -> CountResult;
+        pub fn rulvimba_surface_of_book(surface: *const BookSurface) -> Surface;
+        pub fn rulvimba_check_book_surface(surface: *const BookSurface) -> u64;
+        pub fn rulvimba_book_bounce(path: *mut Path, surface: *const BookSurface, b: BounceArgs) -> BounceResult;
     }
 }
 
@@ -255,6 +292,42 @@ pub fn arrive_in(count: &mut usize, ids: &mut [u16; CANDIDATES], densities: &mut
 /// A departure likewise.
 pub fn depart_in(count: &mut usize, ids: &mut [u16; CANDIDATES], densities: &mut [f64; CANDIDATES], id: u16) -> u64 {
     unsafe { c::rulvimba_depart_in(count, ids.as_mut_ptr(), densities.as_mut_ptr(), id) }
+}
+/// How many surfaces a book has. Those from the one at `first` on are stored, as many as there are places; a refusal leaves
+/// the places as they were.
+pub fn read_book(book: &[u8], first: usize, surfaces: &mut [BookSurface]) -> CountResult {
+    unsafe { c::rulvimba_read_book(book.as_ptr(), book.len(), first, surfaces.as_mut_ptr(), surfaces.len()) }
+}
+/// How many bytes the book of the surfaces has, which then stands at the front of the buffer; a refusal leaves the buffer as
+/// it was.
+pub fn write_book(surfaces: &[BookSurface], buffer: &mut [u8]) -> CountResult {
+    unsafe { c::rulvimba_write_book(surfaces.as_ptr(), surfaces.len(), buffer.as_mut_ptr(), buffer.len()) }
+}
+/// The number that a book's surface is refused with, or 0.
+pub fn check_book_surface(surface: &BookSurface) -> u64 {
+    unsafe { c::rulvimba_check_book_surface(surface) }
+}
+/// The surface that every other call takes, with the spectra of its record; refused as 1 there where it is 1 here.
+pub fn surface_of_book(surface: &BookSurface) -> Surface {
+    unsafe { c::rulvimba_surface_of_book(surface) }
+}
+/// `bounce` on a book's surface, but that two-sided metal ignores the backface flag.
+pub fn book_bounce(path: &mut Path, surface: &BookSurface, b: BounceArgs) -> BounceResult {
+    unsafe { c::rulvimba_book_bounce(path, surface, b) }
+}
+
+impl BookSurface {
+    /// A place that a surface can be read to.
+    pub fn new() -> Self {
+        let (roughness, none) = (Vec2::default(), [0.0; FINE_SAMPLES]);
+        Self { kind: METAL, two_sided: 0, given: 0.0, roughness, entries: 0, eta: none, k: none, outer: none }
+    }
+    /// The surface and its spectra, as every other call takes them.
+    pub fn lent(&self) -> (Surface, Spectra<'_>) {
+        let entries = |places| <[f64; FINE_SAMPLES]>::as_slice(places).get(..self.entries).unwrap_or(&[]);
+        let spectra = Spectra { eta: entries(&self.eta), k: entries(&self.k), outer: entries(&self.outer) };
+        (surface_of_book(self), spectra)
+    }
 }
 
 impl Candidates {

@@ -1,10 +1,11 @@
-//! Light at a filled syringe, through the static library: what examples/c/syringe.c does, in Rust. The water's index is
-//! a published one; the other optical values are illustrative and are no data of a material. It must print
-//! examples/expected.
+//! Light at a filled syringe, through the static library, and a material book of its surfaces: what examples/c/syringe.c
+//! does, in Rust. The water's index is a published one; the other optical values are illustrative and are no data of a
+//! material. It must print examples/expected.
 mod rulvimba;
 use rulvimba::*;
 
 const MANY: usize = 1000;
+const WAVELENGTHS: Color = Color { s0: 450.0, s1: 530.0, s2: 610.0, s3: 690.0 };
 
 fn v(x: f64, y: f64, z: f64) -> Vec3 {
     Vec3 { x, y, z }
@@ -76,6 +77,27 @@ fn numbers(i: usize) -> [f64; BOUNCE_IN] {
     b
 }
 
+/// A bounce's answer and the path after it, at their places in the output of `bounces`.
+fn answer_of(r: BounceResult, p: Path) -> [f64; BOUNCE_OUT] {
+    let (l, w) = (p.lambda, p.power);
+    [
+        l.s0, l.s1, l.s2, l.s3, w.s0, w.s1, w.s2, w.s3, r.number as f64, r.outcome as f64, r.wi.x, r.wi.y, r.wi.z,
+        r.density.finite as f64, r.density.value, r.shares.given as f64, r.shares.reflected, r.shares.passed,
+    ]
+}
+
+fn same_bits(a: &[f64], b: &[f64]) -> bool {
+    a.iter().zip(b).all(|(a, b)| a.to_bits() == b.to_bits())
+}
+
+fn yes_or_no(yes: bool) -> &'static str {
+    if yes {
+        "yes"
+    } else {
+        "no"
+    }
+}
+
 fn many(surface: Surface, s: Spectra) {
     let mut input: Vec<f64> = (0..MANY).flat_map(numbers).collect();
     let mut output = vec![0.0; MANY * BOUNCE_OUT];
@@ -112,21 +134,15 @@ fn many(surface: Surface, s: Spectra) {
             tf: four(b[23], b[24], b[25], b[26]),
         };
         let r = bounce(&mut p, surface, s, args);
-        let (l, w) = (p.lambda, p.power);
-        let one = [
-            l.s0, l.s1, l.s2, l.s3, w.s0, w.s1, w.s2, w.s3, r.number as f64, r.outcome as f64, r.wi.x, r.wi.y, r.wi.z,
-            r.density.finite as f64, r.density.value, r.shares.given as f64, r.shares.reflected, r.shares.passed,
-        ];
-        differ += one.iter().zip(o).any(|(a, b)| a.to_bits() != b.to_bits()) as usize;
+        differ += !same_bits(&answer_of(r, p), o) as usize;
     }
     println!("  one by one: {differ} differ");
 
     // an output with room for two: what lies past their answers is as it was
     let mut few = [-1.0; 2 * BOUNCE_OUT + 5];
     let n = bounces(surface, s, &input, &mut few);
-    let same = few[..2 * BOUNCE_OUT].iter().zip(&output).all(|(a, b)| a.to_bits() == b.to_bits());
+    let same = yes_or_no(same_bits(&few[..2 * BOUNCE_OUT], &output));
     let kept = few[2 * BOUNCE_OUT..].iter().filter(|x| **x == -1.0).count();
-    let same = if same { "yes" } else { "no" };
     println!("  room for two: {n} bounces, the first two as before: {same}, {kept} of 5 doubles past them kept");
 }
 
@@ -167,7 +183,94 @@ fn snell(glass: &[f64], water: &[f64], wo: Vec3, wi: Vec3, wavelength: f64) {
     let (n_glass, n_water) = (lookup(glass, wavelength).value, lookup(water, wavelength).value);
     let (a, b) = (n_glass * in_glass, n_water * in_water);
     print!("Snell's law: in the glass {n_glass:.6} * {in_glass:.6} = {a:.6}, in the water {n_water:.6} * {in_water:.6} = {b:.6}");
-    println!(", equal but for rounding: {}", if (a - b).abs() < 1e-15 { "yes" } else { "no" });
+    println!(", equal but for rounding: {}", yes_or_no((a - b).abs() < 1e-15));
+}
+
+/// A surface for a book: it has the roughness as it is given beside the raised one, and its spectra with it.
+fn for_book(kind: u64, two_sided: bool, roughness: f64, s: Spectra) -> BookSurface {
+    let made = make(kind, roughness, s);
+    let (two_sided, entries) = (two_sided as u64, s.eta.len());
+    let mut b = BookSurface { kind, two_sided, given: roughness, roughness: made.roughness, entries, ..BookSurface::new() };
+    b.eta[..entries].copy_from_slice(s.eta);
+    b.k[..entries].copy_from_slice(s.k);
+    b.outer[..s.outer.len()].copy_from_slice(s.outer);
+    b
+}
+
+/// A book of the surfaces, and what the call answers.
+fn written(surfaces: &[BookSurface]) -> (Vec<u8>, CountResult) {
+    let mut book = vec![0; BOOK_MAX];
+    let r = write_book(surfaces, &mut book);
+    book.truncate(r.count);
+    (book, r)
+}
+
+/// The surfaces of a book, and what the call answers.
+fn read(book: &[u8]) -> (Vec<BookSurface>, CountResult) {
+    let mut surfaces = vec![BookSurface::new(); BOOK_SURFACES];
+    let r = read_book(book, 0, &mut surfaces);
+    surfaces.truncate(r.count);
+    (surfaces, r)
+}
+
+/// The book of the materials.
+fn write_materials(materials: &[BookSurface]) -> Vec<u8> {
+    let (book, r) = written(materials);
+    let sum = book.iter().fold(0u64, |sum, byte| sum.wrapping_mul(31).wrapping_add(*byte as u64));
+    println!("a book of {} surfaces: {}, {} bytes; sum of the bytes {sum:016x}", materials.len(), r.number, r.count);
+    book
+}
+
+/// Whether light has the same answer on a book's surface as on the surface itself, and the same path after it.
+fn same_bounce(of_book: &BookSurface, surface: Surface, s: Spectra, args: BounceArgs) -> &'static str {
+    let mut p = Path::default();
+    start(&mut p, WAVELENGTHS);
+    let mut q = p;
+    let (a, b) = (book_bounce(&mut p, of_book, args), bounce(&mut q, surface, s, args));
+    yes_or_no(same_bits(&answer_of(a, p), &answer_of(b, q)))
+}
+
+/// The book is read; light bounces on its surfaces, and any other call takes them with their own spectra.
+fn read_materials(book: &[u8], steel: (Surface, Spectra), glass: (Surface, Spectra), args: BounceArgs) -> Vec<BookSurface> {
+    let (surfaces, r) = read(book);
+    print!("  read: {}, {} surfaces", r.number, r.count);
+    let (again, r) = written(&surfaces);
+    println!("; written again: {}, the same bytes: {}", r.number, yes_or_no(again == book));
+    println!(
+        "  a bounce as on the surface itself: steel {}, glass {}",
+        same_bounce(&surfaces[0], steel.0, steel.1, args),
+        same_bounce(&surfaces[1], glass.0, glass.1, args)
+    );
+    let b = &surfaces[1];
+    let (surface, s) = b.lent();
+    let f = fresnel_at(surface, s, args.wo, args.normal, 530.0);
+    println!("  the glass: roughness {:.5} as given, {:.5} raised; fresnel: {} {:.6}", b.given, b.roughness.x, f.number, f.value);
+    surfaces
+}
+
+/// Light that meets metal from behind, with the backface flag: the foil reflects it, and on the steel it is lost.
+fn from_behind(foil: &BookSurface, steel: &BookSurface, front: BounceArgs) {
+    let behind = BounceArgs { wo: v(front.wo.x, front.wo.y, -front.wo.z), backface: true, ..front };
+    let mut path = Path::default();
+    start(&mut path, WAVELENGTHS);
+    let r = book_bounce(&mut path, foil, behind);
+    print_bounce("foil from behind", r, &path);
+    let r = book_bounce(&mut path, steel, behind);
+    print_bounce("steel from behind", r, &path);
+}
+
+/// A book with a wrong byte; a buffer that is a byte too short; and glass that touches water, where a book has air.
+fn refused_books(book: &[u8], materials: &[BookSurface], wet_glass: &BookSurface) {
+    let mut damaged = book.to_vec();
+    damaged[4 + 8 * 3] = 2; // behind the count and three pairs: the kind of the first surface
+    print!("a damaged byte: {}", read(&damaged).1.number);
+    let mut short = vec![0xff; book.len()];
+    let r = write_book(materials, &mut short[..book.len() - 1]);
+    let kept = short.iter().filter(|byte| **byte == 0xff).count();
+    println!("; a byte too little room: {}, {kept} of {} bytes kept", r.number, book.len());
+    let mut wet = materials.to_vec();
+    wet[1] = *wet_glass;
+    println!("glass that touches water: to bounce on {}, in a book {}", check_book_surface(wet_glass), written(&wet).1.number);
 }
 
 fn main() {
@@ -179,6 +282,8 @@ fn main() {
     let water = table(|i| water_index(360.0 + 5.0 * i));
     let steel_eta = table(|i| 2.0 + 0.01 * i);
     let steel_k = table(|i| 3.0 + 0.01 * i);
+    let foil_eta = table(|i| 0.4 + 0.015 * i);
+    let foil_k = table(|i| 4.4 + 0.04 * i);
     let fine_eta = table_of(FINE_SAMPLES, |i| 1.53 - 0.00004 * i); // the same glass, 1 nm apart
     let fine_k = table_of(FINE_SAMPLES, |_| 0.0);
     let fine_air = table_of(FINE_SAMPLES, |_| 1.0);
@@ -188,13 +293,13 @@ fn main() {
     let of_fine_wall = Spectra { eta: &fine_eta, k: &fine_k, outer: &fine_air };
     // metal has no outer spectrum, so that none is lent
     let of_steel = Spectra { eta: &steel_eta, k: &steel_k, outer: &[] };
+    let of_foil = Spectra { eta: &foil_eta, k: &foil_k, outer: &[] };
     let glass = make(GLASS, 0.0, of_outer_wall);
     let rough_glass = make(GLASS, 0.2, of_outer_wall);
     let steel = make(METAL, 0.3, of_steel);
 
     let mut path = Path::default();
-    let wavelengths = four(450.0, 530.0, 610.0, 690.0);
-    println!("start: {}", start(&mut path, wavelengths));
+    println!("start: {}", start(&mut path, WAVELENGTHS));
     print_path(&path);
 
     // through the barrel: wo points back to the lamp
@@ -259,7 +364,7 @@ fn main() {
     print("g", g(steel, of_steel, w, w, z));
     print("d", d(steel, of_steel, z));
     print("fresnel at one wavelength", fresnel_at(steel, of_steel, w, z, 530.0));
-    let fs = fresnel(steel, of_steel, w, z, wavelengths);
+    let fs = fresnel(steel, of_steel, w, z, WAVELENGTHS);
     println!("fresnel at four: {} {:.6} {:.6} {:.6} {:.6}", fs.number, fs.value.s0, fs.value.s1, fs.value.s2, fs.value.s3);
     let n = sample_normal(steel, of_steel, w, 0.25, 0.6, 0.8);
     println!("sampled normal: {} {:.6} {:.6} {:.6}", n.number, n.value.x, n.value.y, n.value.z);
@@ -277,4 +382,18 @@ fn main() {
     many(rough_glass, of_outer_wall);
     many(rough_glass, of_inner_wall);
     many(steel, of_steel);
+
+    // surfaces as bytes, for a file: the needle's steel, the outer wall's glass and the aluminium foil of the pouch that
+    // the syringe comes in, metal with two sides. The glass is handed in once more with a roughness of 0.00001, to which
+    // 0.0 is raised: the two are equal, and the second is left out
+    let materials = [
+        for_book(METAL, false, 0.3, of_steel),
+        for_book(GLASS, false, 0.0, of_outer_wall),
+        for_book(METAL, true, 0.1, of_foil),
+        for_book(GLASS, false, 0.00001, of_outer_wall),
+    ];
+    let book = write_materials(&materials);
+    let surfaces = read_materials(&book, (steel, of_steel), (glass, of_outer_wall), barrel);
+    from_behind(&surfaces[2], &surfaces[0], barrel);
+    refused_books(&book, &materials, &for_book(GLASS, false, 0.0, of_inner_wall));
 }
