@@ -36,8 +36,8 @@ pub(crate) fn double_at(b: &[u8], at: usize) -> f64
     ]))
 }
 
-// Fills a spectrum's places: the `n` doubles from the place `from` on, and then zeros. In place, since a copy of the places
-// takes as long as the doubles.
+// Fills a spectrum's places: the `n` doubles from the place `from` on, and then zeros. In place: handed back by value they
+// were copied, and reading a book took twice as long.
 pub(crate) fn spectrum(places: &mut [f64; PLACES], b: &[u8], from: usize, n: usize)
     requires { (from + 8 * n ≤ length b.now) × (n ≤ fine_samples) }
     ensures { places.new ≡ laid (doubles_in n (drop from b.now)) }
