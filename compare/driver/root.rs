@@ -1,6 +1,6 @@
 //! The square root against a second implementation: an exact test, in whole numbers, that a result is
 //! the double nearest to the root. Its digits by themselves have the same inputs: through the root only
-//! subnormals and one normal value in a thousand reach them.
+//! subnormals, zeros and what has no root reach them.
 use super::harness::bits;
 use super::inputs::{beside, edges, subnormal, Rng};
 

@@ -127,7 +127,9 @@ impl Operand {
     }
 }
 
-// The root of every value, by its digits alone.
+// The root of every value, by its digits alone. Not inlined: whoever takes a root stays small.
+#[cold]
+#[inline(never)]
 pub fn by_digits(x: f64) -> f64
     ensures { result ≡ sqrt x }
 {
@@ -143,12 +145,16 @@ pub fn by_digits(x: f64) -> f64
 
 // ---- the processor's root
 
-// IEEE 754's square root, which is one operation of the processor. specs/ defines the root otherwise; the law
-// `by_processor` shows that the two agree.
+// IEEE 754's square root: of a normal value above 0 one operation of the processor. specs/ defines the root otherwise;
+// the law `by_processor` shows that the two agree. Every other value, a subnormal among them, goes by its digits.
 pub fn sqrt(x: f64) -> f64
     ensures { result ≡ sqrt x }
 {
-    x.sqrt()
+    if x >= f64::MIN_POSITIVE {
+        x.sqrt()
+    } else {
+        by_digits(x)
+    }
 }
 
 // lumo's `x.max(0.0).sqrt()`, with no maximum for the root to wait for: 0 where x is below 0 or no number.

@@ -1,5 +1,5 @@
 -- The 54 leading digits Q of √(n * U), for n units of 53 digits: n * U is W * 4 ^ b, W being even and of 107 or 108 digits.
--- Half of them, rounded up, are the digits of the root, however it is computed: `nearest-root` and `instruction` start from them.
+-- Half of them, rounded up, are the digits of the root, however it is computed: `nearest-root` and `by_processor` start from them.
 use Rattle.std.proofs.Common.{ℕ, ◌≡◌, sym, ap, ◌∙◌, subst, ◌+◌, ◌-◌, ◌*◌, ◌/◌, ◌%◌, ◌^◌, ◌≤◌, ◌<◌, le_trans, le_of_eq, lt_of_le_of_lt, lt_of_lt_of_le, mul_assoc, mul-le-mul_right, mul-le-mul, mul-pos, mul-lt-mul_of_pos_right, lt_of_mul-lt-mul_right, le_of_mul-le-mul_right, arith, lit<, pow-add, pow_pos, pow_mono}
 use native.Mathlib.Nat.{mul-mod_left}
 use lib.Ieee.{size}
