@@ -29,38 +29,23 @@ map-remove {B} f (y ∷ ys) (suc i) = ap (λ (l : List B). f y ∷ l) (map-remov
 
 -- ---- the first at + k of a column s
 module _ {A : Type 0} where
-  set_first : (xs ys : List A) (x : A) → length xs ≡ 1 → set (xs ++ ys) 0 x ≡ x ∷ ys
-  set_first [] ys x h = absurd (omega arith)
-  set_first (y ∷ []) ys x h = refl
-  set_first (y ∷ z ∷ xs) ys x h = absurd (omega arith)
-
-  -- k entries and the place behind them turned by one, and x in the first of these places
-  put_far : (s r : List A) (at k : ℕ) (x : A) → at + k < length s
-      → r ≡ drop k (take (suc k) (drop at s)) ++ take k (take (suc k) (drop at s))
-      → set (put_mid at (suc k) s r) at x ≡ over (insert (take (at + k) s) at x) s
+  -- k entries copied a place on, and x in the place of the first
+  put_near : (s : List A) (at k : ℕ) (x : A) → at + k < length s
+      → set (take (suc at) s ++ take k (drop at s) ++ drop (suc (at + k)) s) at x ≡ over (insert (take (at + k) s) at x) s
   unfolding over
-  put_far [] r at k x l e = absurd (omega arith)
-  put_far (y ∷ s) r zero k x l e =
-      let all = take (suc k) (y ∷ s) in
-      let h = length-take (suc k) (y ∷ s) in
-      let i = length-drop k all in
-      let j = length-take k (y ∷ s) in
-      let last : length (drop k all) ≡ 1 = omega arith in
-      let f : length (take k (y ∷ s)) ≡ k = omega arith in
-      rw (e, append_assoc, set_first _ _ x last, take-take k (suc k) (y ∷ s) (omega arith), zero-add, f)
-  put_far (y ∷ s) r (suc at) k x l e = rw suc-add (ap (λ (l : List A). y ∷ l) (put_far s r at k x (omega arith) e))
+  put_near [] at k x l = absurd (omega arith)
+  put_near (y ∷ s) zero k x l =
+      let h = length-take k (y ∷ s) in
+      let e : length (take k (y ∷ s)) ≡ k = omega arith in
+      rw (zero-add, e)
+  put_near (y ∷ s) (suc at) k x l = rw suc-add (ap (λ (l : List A). y ∷ l) (put_near s at k x (omega arith)))
 
-  pub put_in : (s r : List A) (n at m : ℕ) (x : A) → at ≤ n → n < length s → m ≡ n + 1 - at
-      → (let t = take m (drop at s) in r ≡ drop (length t - 1) t ++ take (length t - 1) t)
-      → set (put_mid at m s r) at x ≡ over (insert (take n s) at x) s
-  put_in s r n at m x h l f e =
+  pub put_in : (s : List A) (n at : ℕ) (x : A) → at ≤ n → n < length s → set (copy_within s at n (at + 1)) at x ≡ over (insert (take n s) at x) s
+  put_in s n at x h l =
       let k = n - at in
-      let i : m ≡ suc k = omega arith in
-      let j : at + k ≡ n = omega arith in
-      let d = length-drop at s in
-      let t = length-take (suc k) (drop at s) in
-      let u : length (take (suc k) (drop at s)) - 1 ≡ k = omega arith in
-      rw i (rw j at (put_far s r at k x (omega arith) (rw (i, u) at e)))
+      let e : at + k ≡ n = omega arith in
+      let g = put_near s at k x (omega arith) in
+      rw (add-one, suc-add, e) (rw e at g)
 
   -- k entries copied a place back
   take_near : (s : List A) (at k : ℕ) → at + k < length s

@@ -4,11 +4,12 @@
 ghost use Rattle.std.specs.Prelude.{◌≡◌, ◌≤◌, ◌<◌, length, take, insert, remove};
 ghost use Rattle.numbers.specs.Written.{over};
 
+#[tactic(auto, using(crate::proofs::Lists::put_in))]
 pub(crate) fn put<T: Copy>(column: &mut [T], n: usize, at: usize, x: T)
     requires { (at ≤ n) × (n < length column.old) }
     ensures { column.new ≡ over (insert (take n column.old) at x) column.old }
 {
-    column[at..n + 1].rotate_right(1);
+    column.copy_within(at..n, at + 1);
     column[at] = x;
 }
 

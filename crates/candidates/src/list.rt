@@ -4,7 +4,7 @@ ghost use Rattle.std.specs.Prelude.{◌≡◌, min, length};
 ghost use Rattle.std.specs.List.{position, position_or_len};
 ghost use Rattle.numbers.specs.Refusal.{verdict};
 ghost use Rattle.candidates.specs.Candidate.{is_id, goes_before};
-ghost use Rattle.candidates.specs.Memory.{places, memory, rows, check, Called, arrival, departure};
+ghost use Rattle.candidates.specs.Memory.{places, memory, rows, is_among, check, Called, arrival, departure};
 
 use crate::candidate::Candidate;
 use crate::columns;
@@ -25,6 +25,18 @@ fn find(ids: &[u16], id: u16) -> Option<usize>
     ensures { result ≡ position (is_id id) ids.now }
 {
     ids.iter().position(|x| *x == id)
+}
+
+// Whether an id is among others. By hand, all of them compared, so that the compiler compares several at a time and no
+// branch hangs on where the id is: `contains` takes twice the time where one of fifty is.
+fn is_among(ids: &[u16], id: u16) -> bool
+    ensures { result ≡ is_among id ids.now }
+{
+    let mut among = false;
+    for x in ids {
+        among |= *x == id;
+    }
+    among
 }
 
 // The place of an arrival: before the first that it goes before.
@@ -51,7 +63,7 @@ fn check_arrival(ids: &[u16], c: Candidate) -> Check
 {
     c.check()?;
     refuse(Refusal::Full, ids.len() < ROOM)?;
-    refuse(Refusal::Id, !ids.contains(&c.id))
+    refuse(Refusal::Id, !is_among(ids, c.id))
 }
 
 // A candidate arrives. By hand: C lends three pointers, and a contract of one value with the three has to name each

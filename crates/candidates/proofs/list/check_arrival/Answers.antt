@@ -8,5 +8,5 @@ pub returns : goal.returns
 unfolding check number
 returns c =
     let room : accepted ≡ refuse 11 (ltb (length c.args.ids.now) 64) = c.in_ok-refuse.ensures in
-    let id : verdict c.refuse-2.result ≡ refuse 12 (not c.contains.result) = c.refuse-2.ensures in
-    id ∙ rw (← c.in_ok-check.ensures, ← room, c.contains.ensures.value)
+    let id : verdict c.refuse-2.result ≡ refuse 12 (not c.is_among.result) = c.refuse-2.ensures in
+    id ∙ rw (← c.in_ok-check.ensures, ← room, c.is_among.ensures)
