@@ -23,14 +23,14 @@ pub fn check_direction(w: Vec3) -> Check
 // The values of a lone lookup: any finite ones.
 #[tactic(auto, unfolding(crate::specs::Checked::table_holds))]
 fn table_holds(values: &DenseSpectrum<'_>) -> bool
-    ensures { result ≡ table_holds values.now }
+    ensures { result ≡ table_holds values.now.values.now }
 {
     values.is_table() && values.all_finite()
 }
 
 #[tactic(auto, unfolding(crate::specs::Checked::check_table, crate::specs::Refusal::number))]
 fn check_table(values: &DenseSpectrum<'_>) -> Check
-    ensures { verdict result ≡ check_table values.now }
+    ensures { verdict result ≡ check_table values.now.values.now }
 {
     refuse(Refusal::Eta, table_holds(values))
 }
@@ -58,7 +58,7 @@ pub fn check_lookup(lambda: f64) -> Check
 // A spectrum's value at a wavelength, of which 0 is one that was ended.
 #[tactic(auto, unfolding(crate::specs::Checked::lookup))]
 pub fn lookup(values: &DenseSpectrum<'_>, lambda: f64) -> Result<f64, Refusal>
-    ensures { answer result ≡ lookup values.now lambda }
+    ensures { answer result ≡ lookup values.now.values.now lambda }
 {
     check_table(values)?;
     check_lookup(lambda)?;

@@ -7,7 +7,6 @@ ghost use Rattle.numbers.specs.GridPoint.{grid_point, sample_from};
 ghost use Rattle.numbers.specs.DenseSpectrum.{ceiling, entry, interpolate, sample_one, every, is_constant, all_within, all_finite, is_table, one_spacing, step_of, is_wavelength, is_lookup_wavelength};
 
 use floats::float;
-use std::marker::Model;
 
 // The range of wavelengths of a table, in nanometres.
 pub const LAMBDA_MIN: f64 = 360.0;
@@ -23,17 +22,9 @@ pub const TERMINATED: f64 = 0.0;
 
 // Spectrum sampled at 5nm or at 1nm steps from 360nm to 830nm. The entries are lent: a surface's spectra lie in its
 // caller's memory.
-#[derive(Drop)]
+#[derive(Clone, Copy)]
 pub struct DenseSpectrum<'a> {
     pub values: &'a [f64],
-}
-
-impl<'a> Model for DenseSpectrum<'a> {
-    ghost use Rattle.std.specs.Prelude.{List, Float};
-
-    ghost Value = { List Float };
-
-    ghost view = { λ s. s.values.now };
 }
 
 impl<'a> DenseSpectrum<'a> {
@@ -47,14 +38,14 @@ impl<'a> DenseSpectrum<'a> {
     pub const FINE_STEP: f64 = 1.0;
 
     pub fn new(values: &'a [f64]) -> DenseSpectrum<'a>
-        ensures { result ≡ values.now }
+        ensures { result.values.now ≡ values.now }
     {
         DenseSpectrum { values }
     }
 
     // How far apart the entries are, which their number tells.
     pub fn step(&self) -> f64
-        ensures { result ≡ step_of self.now }
+        ensures { result ≡ step_of self.now.values.now }
     {
         if self.values.len() == DenseSpectrum::FINE_SAMPLES {
             return DenseSpectrum::FINE_STEP;
@@ -64,7 +55,7 @@ impl<'a> DenseSpectrum<'a> {
 
     // Are all entries equal?
     pub fn is_constant(&self) -> bool
-        ensures { result ≡ is_constant self.now }
+        ensures { result ≡ is_constant self.now.values.now }
     {
         let first = self.entry(0);
         // Where the last entry differs from the first, as it mostly does in a spectrum that varies, no pass is needed.
@@ -79,7 +70,7 @@ impl<'a> DenseSpectrum<'a> {
     // Sample the dense spectrum at one wavelength `lambda`
     #[tactic(auto, using(crate::proofs::dense_spectrum::SampleFrom::sample_from_point), unfolding(crate::specs::DenseSpectrum::sample_one))]
     pub fn sample_one(&self, lambda: f64) -> f64
-        ensures { result ≡ sample_one self.now lambda }
+        ensures { result ≡ sample_one self.now.values.now lambda }
     {
         self.sample_from(GridPoint::new(self.step(), lambda))
     }
@@ -87,7 +78,7 @@ impl<'a> DenseSpectrum<'a> {
     // The same, from the wavelength's place among the grid points.
     #[tactic(auto, unfolding(crate::specs::GridPoint::sample_from))]
     pub fn sample_from(&self, point: GridPoint) -> f64
-        ensures { result ≡ sample_from self.now point }
+        ensures { result ≡ sample_from self.now.values.now point }
     {
         match point {
             GridPoint::Ended => 0.0,
@@ -102,7 +93,7 @@ impl<'a> DenseSpectrum<'a> {
 
     // The entry at `i`, and NaN past the end. By hand, no Option: a lookup's sums take the NaN on, as its definition says.
     pub fn entry(&self, i: u64) -> f64
-        ensures { result ≡ entry self.now i }
+        ensures { result ≡ entry self.now.values.now i }
     {
         self.values.get(i as usize).copied().unwrap_or(float::nan())
     }
@@ -111,7 +102,7 @@ impl<'a> DenseSpectrum<'a> {
     // time: a pass takes a third of the time that `all` would. A `fold` took a tenth more than this.
     fn every<F: Fn(f64) -> bool>(&self, holds: F) -> bool
         requires { F.IsAlwaysCallable holds }
-        ensures { (p : Float → Bool) → ((x : Float) (r : Bool) → F.post holds x r → r ≡ p x) → result ≡ every p self.now }
+        ensures { (p : Float → Bool) → ((x : Float) (r : Bool) → F.post holds x r → r ≡ p x) → result ≡ every p self.now.values.now }
     {
         let mut ok = true;
         for value in self.values {
@@ -123,14 +114,14 @@ impl<'a> DenseSpectrum<'a> {
     // Whether every entry lies from `lo` to `hi`.
     #[tactic(auto, unfolding(crate::specs::DenseSpectrum::all_within))]
     pub fn all_within(&self, lo: f64, hi: f64) -> bool
-        ensures { result ≡ all_within lo hi self.now }
+        ensures { result ≡ all_within lo hi self.now.values.now }
     {
         self.every(|value| float::within(lo, hi, value))
     }
 
     #[tactic(auto, unfolding(crate::specs::DenseSpectrum::all_finite))]
     pub fn all_finite(&self) -> bool
-        ensures { result ≡ all_finite self.now }
+        ensures { result ≡ all_finite self.now.values.now }
     {
         self.every(|value| float::is_finite(value))
     }
@@ -138,15 +129,16 @@ impl<'a> DenseSpectrum<'a> {
     // Whether there are as many entries as a table has.
     #[tactic(auto, unfolding(crate::specs::DenseSpectrum::is_table))]
     pub fn is_table(&self) -> bool
-        ensures { result ≡ is_table self.now }
+        ensures { result ≡ is_table self.now.values.now }
     {
         self.values.len() == DenseSpectrum::SAMPLES
             || self.values.len() == DenseSpectrum::FINE_SAMPLES
     }
 
     // Whether the two have one spacing: as many entries of each.
+    #[tactic(auto, unfolding(crate::specs::DenseSpectrum::one_spacing))]
     pub fn one_spacing(&self, other: &DenseSpectrum<'_>) -> bool
-        ensures { result ≡ one_spacing self.now other.now }
+        ensures { result ≡ one_spacing self.now.values.now other.now.values.now }
     {
         let own = self.values.len();
         let others = other.values.len();

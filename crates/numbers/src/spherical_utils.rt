@@ -2,6 +2,7 @@
 ghost use Rattle.std.specs.Prelude.{◌≡◌};
 ghost use Rattle.numbers.specs.SphericalUtils.{same_hemisphere, cos_phi, sin_phi, azimuth, cos_theta, sin_theta, tan_theta, cos2_theta, sin2_theta, tan2_theta};
 
+use crate::vec2::Vec2;
 use crate::vec3::Vec3;
 use floats::float;
 use floats::square_root::sqrt;
@@ -26,6 +27,18 @@ pub fn sin_phi(w: Vec3) -> f64
     ensures { result ≡ sin_phi w }
 {
     azimuth(w.y, sin_theta(w), 0.0)
+}
+
+// Both at once: the sine of θ, a root, is worked once for the two.
+#[tactic(auto, unfolding(crate::specs::SphericalUtils::cos_phi, crate::specs::SphericalUtils::sin_phi, crate::specs::SphericalUtils::azimuth))]
+pub fn cos_sin_phi(w: Vec3) -> Vec2
+    ensures { (result.x ≡ cos_phi w) × (result.y ≡ sin_phi w) }
+{
+    let sin_theta = sin_theta(w);
+    Vec2 {
+        x: azimuth(w.x, sin_theta, 1.0),
+        y: azimuth(w.y, sin_theta, 0.0),
+    }
 }
 
 // The cosine or the sine of φ, from the direction's part along x or y and the sine of θ; `pole` where there is no φ.

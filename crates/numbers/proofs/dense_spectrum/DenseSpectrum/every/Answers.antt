@@ -11,4 +11,4 @@ pub loop-value-preserved : goal.loop-value-preserved
 loop-value-preserved g c = let l = c.loop-value in λ p acts. rw (acts _ _ c.holds-ok.ensures) (rest-next _ _ l.value-index l.ok nan (l.invariant p acts) (omega arith))
 
 pub returns : goal.returns
-returns g c = let l = c.loop-value in λ p acts. rw (← c.self.view_is) (sym (rest_ends _ _ l.value-index l.ok (l.invariant p acts) (omega arith)))
+returns g c = let l = c.loop-value in λ p acts. sym (rest_ends _ _ l.value-index l.ok (l.invariant p acts) (omega arith))

@@ -11,9 +11,9 @@ use Rattle.numbers.proofs.dense_spectrum.DenseSpectrum.is_constant.Goals as goal
 pub returns-then-first-last : goal.returns-then-first-last
 unfolding is_constant ne
 returns-then-first-last c =
-    let values = c.self.inside.values.now in
+    let values = c.args.self.now.values.now in
     let at = c.in-Some.ensures.item.3 in
-    rw (← c.entry-first.ensures, ← c.self.view_is) (sym (every_fails _ values (length values - 1) (omega (arith, at.0)) (rw (← at.1 nan) (not-true _ c.if-first-last.true))))
+    rw (← c.entry-first.ensures) (sym (every_fails _ values (length values - 1) (omega (arith, at.0)) (rw (← at.1 nan) (not-true _ c.if-first-last.true))))
 
 pub returns : goal.returns
 unfolding is_constant

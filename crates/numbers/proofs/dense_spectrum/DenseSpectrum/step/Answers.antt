@@ -6,8 +6,8 @@ use Rattle.numbers.proofs.dense_spectrum.DenseSpectrum.step.Goals as goal
 
 pub returns-then-self-eq-FINE_SAMPLES : goal.returns-then-self-eq-FINE_SAMPLES
 unfolding step_of of_bits
-returns-then-self-eq-FINE_SAMPLES c = rw (← c.self.view_is, eq-eqb _ _ c.if-self-eq-FINE_SAMPLES.true)
+returns-then-self-eq-FINE_SAMPLES c = rw (eq-eqb _ _ c.if-self-eq-FINE_SAMPLES.true)
 
 pub returns : goal.returns
 unfolding step_of of_bits
-returns c = rw (← c.self.view_is, ne_eqb _ _ c.if-self-eq-FINE_SAMPLES.false)
+returns c = rw (ne_eqb _ _ c.if-self-eq-FINE_SAMPLES.false)
