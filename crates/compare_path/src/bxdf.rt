@@ -98,5 +98,12 @@ pub extern "C" fn optics_pdf(
 {
     let surface = Surface::from(surface);
     let at = OpticalConstants { eta, k };
-    bxdf::pdf(surface.kind, surface.facets(), wo, wi, reflection, at)
+    bxdf::pdf(
+        surface.kind,
+        Ggx::new(surface.roughness),
+        wo,
+        wi,
+        reflection,
+        at,
+    )
 }

@@ -21,7 +21,7 @@ use optics::check::{
     is_roughness_given, raised,
 };
 use optics::color::Color;
-use optics::microfacet::{DiskPoint, Kind, Microsurface, Spectra, Surface};
+use optics::microfacet::{DiskPoint, Ggx, Kind, Microsurface, Spectra, Surface};
 use optics::{bxdf, microfacet};
 
 // A density that is handed out is finite.
@@ -53,7 +53,7 @@ pub fn is_delta(m: &Microsurface<'_>) -> Result<bool, Refusal>
     ensures { answer result ≡ Counter.is_delta m.now }
 {
     check_surface(m)?;
-    Ok(m.surface.facets().is_delta())
+    Ok(Ggx::new(m.surface.roughness).is_delta())
 }
 
 #[tactic(auto, unfolding(crate::specs::Counter::lambda))]
@@ -62,7 +62,7 @@ pub fn lambda(m: &Microsurface<'_>, w: Vec3) -> Result<f64, Refusal>
 {
     check_surface(m)?;
     check_direction(w)?;
-    Ok(m.surface.facets().lambda(w))
+    Ok(Ggx::new(m.surface.roughness).lambda(w))
 }
 
 #[tactic(auto, unfolding(crate::specs::Counter::chi_pass))]
@@ -82,7 +82,7 @@ pub fn g1(m: &Microsurface<'_>, wo: Vec3, wh: Vec3) -> Result<f64, Refusal>
     check_surface(m)?;
     check_direction(wo)?;
     check_direction(wh)?;
-    Ok(m.surface.facets().g1(wo, wh))
+    Ok(Ggx::new(m.surface.roughness).g1(wo, wh))
 }
 
 #[tactic(auto, unfolding(crate::specs::Counter::g))]
@@ -93,7 +93,7 @@ pub fn g(m: &Microsurface<'_>, wo: Vec3, wi: Vec3, wh: Vec3) -> Result<f64, Refu
     check_direction(wo)?;
     check_direction(wi)?;
     check_direction(wh)?;
-    Ok(m.surface.facets().g(wo, wi, wh))
+    Ok(Ggx::new(m.surface.roughness).g(wo, wi, wh))
 }
 
 #[tactic(auto, unfolding(crate::specs::Counter::d))]
@@ -102,7 +102,7 @@ pub fn d(m: &Microsurface<'_>, wh: Vec3) -> Result<f64, Refusal>
 {
     check_surface(m)?;
     check_direction(wh)?;
-    Ok(m.surface.facets().d(wh))
+    Ok(Ggx::new(m.surface.roughness).d(wh))
 }
 
 // Any floats: it refuses only for its surface.
@@ -116,11 +116,8 @@ pub fn disney_diffuse(
     ensures { answer result ≡ Counter.disney_diffuse m.now cos_theta_wo cos_theta_wi cos_theta_wh }
 {
     check_surface(m)?;
-    Ok(
-        m.surface
-            .facets()
-            .disney_diffuse(cos_theta_wo, cos_theta_wi, cos_theta_wh),
-    )
+    let mfd = Ggx::new(m.surface.roughness);
+    Ok(mfd.disney_diffuse(cos_theta_wo, cos_theta_wi, cos_theta_wh))
 }
 
 // ---- Fresnel
@@ -156,7 +153,7 @@ pub fn sample_normal(m: &Microsurface<'_>, wo: Vec3, p: DiskPoint) -> Result<Vec
     check_direction(wo)?;
     check_random(p.disk)?;
     check_circle_pair(p.c, p.s)?;
-    Ok(m.surface.facets().sample_normal(wo, p))
+    Ok(Ggx::new(m.surface.roughness).sample_normal(wo, p))
 }
 
 #[tactic(auto, unfolding(crate::specs::Counter::reflect))]
@@ -196,6 +193,6 @@ pub fn pdf(
     check_wavelength(lambda)?;
     let kind = m.surface.kind;
     let at = microfacet::optical_constants(kind, &m.spectra, lambda);
-    let mfd = m.surface.facets();
+    let mfd = Ggx::new(m.surface.roughness);
     finite_only(bxdf::pdf(kind, mfd, wo, wi, reflection, at))
 }

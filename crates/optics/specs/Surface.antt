@@ -41,6 +41,10 @@ pub record Microsurface : Type 0 where
 abbrev pub microsurface : Surface → List Float → List Float → List Float → Microsurface
 microsurface s eta k outer = record { kind = s.kind; roughness = s.roughness; eta = eta; k = k; outside = medium outer }
 
+-- the same surface with something else outside
+abbrev pub beside : Outside → Microsurface → Microsurface
+beside outside m = record { kind = m.kind; roughness = m.roughness; eta = m.eta; k = m.k; outside = outside }
+
 -- ---- limits, each in this one place
 unfoldable pub roughness_min : Float
 roughness_min = decimal 1 100000

@@ -61,28 +61,28 @@ fn is_eta(eta: f64) -> bool
 
 // Whether every entry lies within the limits of an index.
 fn all_indices(spectrum: &DenseSpectrum<'_>) -> bool
-    ensures { result ≡ all_within eta_min eta_max spectrum.now }
+    ensures { result ≡ all_within eta_min eta_max spectrum.now.values.now }
 {
     spectrum.all_within(ETA_MIN, ETA_MAX)
 }
 
 #[tactic(auto, unfolding(crate::specs::Surface::eta_holds))]
 fn eta_holds(eta: &DenseSpectrum<'_>) -> bool
-    ensures { result ≡ eta_holds eta.now }
+    ensures { result ≡ eta_holds eta.now.values.now }
 {
     eta.is_table() && all_indices(eta)
 }
 
 #[tactic(auto, unfolding(crate::specs::Surface::all_zero))]
 fn all_zero(k: &DenseSpectrum<'_>) -> bool
-    ensures { result ≡ all_zero k.now }
+    ensures { result ≡ all_zero k.now.values.now }
 {
     k.all_within(0.0, 0.0)
 }
 
 #[tactic(auto, unfolding(crate::specs::Surface::k_entries_hold))]
 fn k_entries_hold(kind: Kind, k: &DenseSpectrum<'_>) -> bool
-    ensures { result ≡ k_entries_hold kind k.now }
+    ensures { result ≡ k_entries_hold kind k.now.values.now }
 {
     match kind {
         Kind::Metal => {
@@ -96,7 +96,7 @@ fn k_entries_hold(kind: Kind, k: &DenseSpectrum<'_>) -> bool
 // A table of as many entries as eta has, all within their limits. Of what is no table no entry is read.
 #[tactic(auto, unfolding(crate::specs::Surface::k_holds))]
 fn k_holds(kind: Kind, eta: &DenseSpectrum<'_>, k: &DenseSpectrum<'_>) -> bool
-    ensures { result ≡ k_holds kind eta.now k.now }
+    ensures { result ≡ k_holds kind eta.now.values.now k.now.values.now }
 {
     k.is_table() && eta.one_spacing(k) && k_entries_hold(kind, k)
 }
@@ -105,7 +105,7 @@ fn k_holds(kind: Kind, eta: &DenseSpectrum<'_>, k: &DenseSpectrum<'_>) -> bool
 // table no entry is read.
 #[tactic(auto, unfolding(crate::specs::Surface::outer_holds))]
 fn outer_holds(kind: Kind, eta: &DenseSpectrum<'_>, outer: &DenseSpectrum<'_>) -> bool
-    ensures { result ≡ outer_holds kind eta.now (medium outer.now) }
+    ensures { result ≡ outer_holds kind eta.now.values.now (medium outer.now.values.now) }
 {
     match kind {
         Kind::Metal => true,

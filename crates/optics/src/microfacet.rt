@@ -80,17 +80,6 @@ pub struct Surface {
     pub roughness: Vec2,
 }
 
-impl Surface {
-    // The surface's facets.
-    pub fn facets(self) -> Ggx
-        ensures { result.roughness ≡ self.roughness }
-    {
-        Ggx {
-            roughness: self.roughness,
-        }
-    }
-}
-
 // A surface's spectra, which are lent: the refraction index eta, the absorption coefficient k, and the outer spectrum,
 // which is the refraction index of what lies outside glass.
 #[derive(Drop)]
@@ -105,7 +94,7 @@ impl<'a> Model for Spectra<'a> {
 
     ghost Value = { Spectra };
 
-    ghost view = { λ s. spectra s.eta s.k s.outer };
+    ghost view = { λ s. spectra s.eta.values.now s.k.values.now s.outer.values.now };
 }
 
 impl<'a> Spectra<'a> {
@@ -191,14 +180,14 @@ impl Known {
 // Eta itself at one wavelength, lumo's reading, which on glass is not yet the index.
 #[tactic(auto, unfolding(crate::specs::Surface::eta_at, crate::specs::Surface::eta_from, numbers::specs::DenseSpectrum::sample_one))]
 pub fn eta_at(eta: &DenseSpectrum<'_>, wl: f64) -> f64
-    ensures { result ≡ eta_at eta.now wl }
+    ensures { result ≡ eta_at eta.now.values.now wl }
 {
     eta.sample_one(wl)
 }
 
 // The absorption coefficient at one wavelength, with eta's spacing.
 pub fn k_at(eta: &DenseSpectrum<'_>, k: &DenseSpectrum<'_>, wl: f64) -> f64
-    ensures { result ≡ k_at eta.now k.now wl }
+    ensures { result ≡ k_at eta.now.values.now k.now.values.now wl }
 {
     k.sample_from(GridPoint::new(eta.step(), wl))
 }
@@ -265,7 +254,7 @@ fn quotient(wl: f64, eta: f64, outer: f64) -> f64
 
 // The outer index: a constant spectrum gives its entry between grid points too.
 fn outer_at(outer_constant: bool, outer: &DenseSpectrum<'_>, point: GridPoint) -> f64
-    ensures { result ≡ cond outer_constant (entry outer.now 0) (sample_from outer.now point) }
+    ensures { result ≡ cond outer_constant (entry outer.now.values.now 0) (sample_from outer.now.values.now point) }
 {
     if outer_constant {
         return outer.entry(0);
@@ -307,6 +296,13 @@ pub struct Ggx {
 }
 
 impl Ggx {
+    // The facets of a roughness. It takes no surface: a call that did would have to check it.
+    pub fn new(roughness: Vec2) -> Ggx
+        ensures { result.roughness ≡ roughness }
+    {
+        Ggx { roughness }
+    }
+
     // Does the material have delta scattering distribution?
     pub fn is_delta(self) -> bool
         ensures { result ≡ is_delta self.roughness }
@@ -344,8 +340,9 @@ impl Ggx {
         if cos4_theta < float::powi2(EPSILON) {
             return 0.0;
         }
-        let x = spherical_utils::cos_phi(wh) / self.roughness.x;
-        let y = spherical_utils::sin_phi(wh) / self.roughness.y;
+        let phi = spherical_utils::cos_sin_phi(wh);
+        let x = phi.x / self.roughness.x;
+        let y = phi.y / self.roughness.y;
         let e = tan2_theta * (float::powi2(x) + float::powi2(y));
 
         let alpha2 = self.roughness.x * self.roughness.y;
@@ -361,8 +358,9 @@ impl Ggx {
         if float::is_infinite(tan2_theta) {
             return 0.0;
         }
-        let x = self.roughness.x * spherical_utils::cos_phi(w);
-        let y = self.roughness.y * spherical_utils::sin_phi(w);
+        let phi = spherical_utils::cos_sin_phi(w);
+        let x = self.roughness.x * phi.x;
+        let y = self.roughness.y * phi.y;
         let alpha2 = float::powi2(x) + float::powi2(y);
 
         (sqrt_or_zero(1.0 + alpha2 * tan2_theta) - 1.0) / 2.0
@@ -380,11 +378,14 @@ impl Ggx {
         0.0
     }
 
-    #[tactic(auto, using(crate::proofs::SharedTerms::g1_at_lem))]
+    #[tactic(auto, unfolding(crate::specs::Facets::g1, crate::specs::Facets::masked))]
     pub fn g1(self, wo: Vec3, wh: Vec3) -> f64
         ensures { result ≡ g1 self.roughness wo wh }
     {
-        self.seen_from(wo).g1(wo.dot(wh), wh)
+        if chi_pass(wo, wh) {
+            return 1.0 / (1.0 + self.lambda(wo));
+        }
+        0.0
     }
 
     // The facets as `wo` sees them, where they scatter into many directions.

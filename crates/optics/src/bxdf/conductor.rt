@@ -1,6 +1,7 @@
 // Microfacet conductor.
 ghost use Rattle.std.specs.Prelude.{◌≡◌};
 ghost use Rattle.numbers.specs.Vec3.{dot};
+ghost use Rattle.optics.specs.Facets.{is_delta};
 ghost use Rattle.optics.specs.Bxdf.{sampled, conductor_normal, conductor_from, conductor_sample};
 ghost use Rattle.optics.specs.SharedTerms.{sample_normal_pdf_at};
 ghost use Rattle.optics.specs.Density.{conductor_half, conductor_pdf_from, conductor_pdf};
@@ -61,14 +62,21 @@ pub fn half(wo: Vec3, wi: Vec3) -> Vec3
     on_z_side((wo + wi).normalize())
 }
 
+// Whether the facets send light into one direction, whatever the view says: a density promises that of its facets.
+fn is_mirror(view: View) -> bool
+    ensures { result ≡ is_delta view.mfd.roughness }
+{
+    view.mfd.is_delta()
+}
+
 // `pdf` with the normal that takes `wo` to `wi` at hand.
 #[tactic(auto, unfolding(crate::specs::Density::conductor_pdf_from))]
 pub fn pdf_at(view: View, wi: Vec3, wh: Vec3) -> f64
-    ensures { result ≡ conductor_pdf_from (sample_normal_pdf_at view.mfd.roughness view.lambda_wo (dot view.wo wh) wh view.wo) view.one_direction view.wo wi wh }
+    ensures { result ≡ conductor_pdf_from (sample_normal_pdf_at view.mfd.roughness view.lambda_wo (dot view.wo wh) wh view.wo) (is_delta view.mfd.roughness) view.wo wi wh }
 {
     // check if in same hemisphere or perpendicular to normal
     if spherical_utils::same_hemisphere(wi, view.wo) {
-        if view.one_direction {
+        if is_mirror(view) {
             return bxdf::at_z(wh, 1.0);
         }
         let wh_dot_wo = view.wo.dot(wh);

@@ -100,9 +100,9 @@ pub fn pdf_at(
     at: OpticalConstants,
     ratio: f64,
 ) -> f64
-    ensures { result ≡ dielectric_pdf_from (sample_normal_pdf_at view.mfd.roughness view.lambda_wo (dot view.wo wh) wh view.wo) view.one_direction at.eta at.k ratio reflection view.wo wi wh }
+    ensures { result ≡ dielectric_pdf_from (sample_normal_pdf_at view.mfd.roughness view.lambda_wo (dot view.wo wh) wh view.wo) (is_smooth view.mfd.roughness at.eta) at.eta at.k ratio reflection view.wo wi wh }
 {
-    let facet = Facet::new(view, wi, wh);
+    let facet = Facet::new(view, at.eta, wi, wh);
     if facet.is_discarded() {
         return 0.0;
     }
@@ -128,11 +128,16 @@ struct Facet {
 }
 
 impl Facet {
-    fn new(view: View, wi: Vec3, wh: Vec3) -> Facet
-        ensures { (result.view ≡ view) × (result.wi ≡ wi) × (result.wh ≡ wh) }
+    // Whether the glass is smooth is found here, whatever the view says: a density promises that of its facets and its
+    // index.
+    fn new(view: View, eta: f64, wi: Vec3, wh: Vec3) -> Facet
+        ensures { (result.view.mfd ≡ view.mfd) × (result.view.wo ≡ view.wo) × (result.view.one_direction ≡ is_smooth view.mfd.roughness eta) × (result.view.lambda_wo ≡ view.lambda_wo) × (result.wi ≡ wi) × (result.wh ≡ wh) }
     {
         Facet {
-            view,
+            view: View {
+                one_direction: is_smooth(view.mfd, eta),
+                ..view
+            },
             wi,
             wh,
             wh_dot_wo: view.wo.dot(wh),

@@ -6,5 +6,5 @@ use Rattle.optics.proofs.bxdf.conductor.pdf.Goals as goal
 pub returns : goal.returns
 returns c =
     let view = c.new.ensures in
-    rw (c.pdf_at.ensures, view.0, view.1, view.2, c.is_delta.ensures)
+    rw (c.pdf_at.ensures, view.0, view.1)
     (metal-density _ f0 _ _ _ (rw (← c.is_delta.ensures) view.3) _ c.half.ensures)

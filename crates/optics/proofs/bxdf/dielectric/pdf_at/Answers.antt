@@ -11,11 +11,11 @@ unfolding dielectric_pdf_from f_at
 returns-then-reflection c =
     let facet = c.new-facet.ensures in
     let cos = c.new-facet.result in
-    rw (← normal_unread _ f0 _ _ _ _ _ _ _ _, ← facet.0, ← facet.1, ← facet.2, ← cos.cos_wo, ← cos.cos_wi, ← c.is_discarded.ensures, c.if-is_discarded.false, ← c.normal_pdf-normal_pdf.ensures, ← c.fresnel-pr.ensures, c.if-reflection.true, ← c.reflected_pdf.ensures)
+    rw (← facet.2, ← normal_unread _ f0 _ _ _ _ _ _ _ _, ← facet.0, ← facet.1, ← facet.3, ← facet.4, ← facet.5, ← cos.cos_wo, ← cos.cos_wi, ← c.is_discarded.ensures, c.if-is_discarded.false, ← c.normal_pdf-normal_pdf.ensures, ← c.fresnel-pr.ensures, c.if-reflection.true, ← c.reflected_pdf.ensures)
 
 pub returns : goal.returns
 unfolding dielectric_pdf_from f_at
 returns c =
     let facet = c.new-facet.ensures in
     let cos = c.new-facet.result in
-    rw (← normal_unread _ f0 _ _ _ _ _ _ _ _, ← facet.0, ← facet.1, ← facet.2, ← cos.cos_wo, ← cos.cos_wi, ← c.is_discarded.ensures, c.if-is_discarded.false, ← c.normal_pdf-normal_pdf.ensures, ← c.fresnel-pr.ensures, c.if-reflection.false, ← c.passed_pdf.ensures)
+    rw (← facet.2, ← normal_unread _ f0 _ _ _ _ _ _ _ _, ← facet.0, ← facet.1, ← facet.3, ← facet.4, ← facet.5, ← cos.cos_wo, ← cos.cos_wi, ← c.is_discarded.ensures, c.if-is_discarded.false, ← c.normal_pdf-normal_pdf.ensures, ← c.fresnel-pr.ensures, c.if-reflection.false, ← c.passed_pdf.ensures)

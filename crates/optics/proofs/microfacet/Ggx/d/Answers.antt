@@ -12,4 +12,4 @@ returns-then-cos4_theta-powi2 c =
 pub returns : goal.returns
 unfolding d slope_squared cos4_theta epsilon decimal of_bits
 returns c =
-    rw (← c.tan2_theta-tan2_theta.ensures, ← c.is_infinite.ensures, c.if-is_infinite.false, ← c.cos2_theta.ensures, ← c.powi2-cos4_theta.ensures, ← c.powi2.ensures, c.if-cos4_theta-powi2.false, ← c.cos_phi.ensures, ← c.sin_phi.ensures, ← c.powi2-2.ensures, ← c.powi2-3.ensures, ← c.powi2-4.ensures)
+    rw (← c.tan2_theta-tan2_theta.ensures, ← c.is_infinite.ensures, c.if-is_infinite.false, ← c.cos2_theta.ensures, ← c.powi2-cos4_theta.ensures, ← c.powi2.ensures, c.if-cos4_theta-powi2.false, ← c.cos_sin_phi-phi.ensures.0, ← c.cos_sin_phi-phi.ensures.1, ← c.powi2-2.ensures, ← c.powi2-3.ensures, ← c.powi2-4.ensures)

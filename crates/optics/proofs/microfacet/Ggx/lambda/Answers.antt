@@ -6,4 +6,4 @@ use Rattle.optics.proofs.microfacet.Ggx.lambda.Goals as goal
 pub returns : goal.returns
 unfolding lambda lambda_of alpha2 of_bits
 returns c =
-    rw (← c.tan2_theta-tan2_theta.ensures, ← c.is_infinite.ensures, c.if-is_infinite.false, ← c.cos_phi.ensures, ← c.sin_phi.ensures, ← c.powi2.ensures, ← c.powi2-2.ensures, ← c.sqrt_or_zero.ensures)
+    rw (← c.tan2_theta-tan2_theta.ensures, ← c.is_infinite.ensures, c.if-is_infinite.false, ← c.cos_sin_phi-phi.ensures.0, ← c.cos_sin_phi-phi.ensures.1, ← c.powi2.ensures, ← c.powi2-2.ensures, ← c.sqrt_or_zero.ensures)
