@@ -6,6 +6,7 @@ ghost use Rattle.optics.specs.Color.{color};
 ghost use Rattle.numbers.specs.Refusal.{answer, given, ◌▷◌};
 ghost use Rattle.numbers.specs.DenseSpectrum.{step_of};
 ghost use Rattle.optics.specs.Known.{known_on_glass};
+ghost use Rattle.optics.specs.Surface.{Outside, beside};
 ghost use Rattle.optics.specs.declared.microfacet.Kind.TheVariants.{Metal, Glass};
 ghost use Rattle.path.specs.Path.{path, weighed, terminate};
 ghost use Rattle.path.specs.Bounce.{check_bounce};
@@ -22,7 +23,7 @@ use numbers::refusal::Refusal;
 use optics::bxdf::{Sample, conductor, dielectric};
 use optics::color::Color;
 use optics::microfacet;
-use optics::microfacet::{Known, Microsurface, Snell};
+use optics::microfacet::{Ggx, Known, Microsurface, Snell};
 
 // A bounce of `path` on a surface.
 pub fn bounce(path: Path, m: &Microsurface<'_>, b: Bounce) -> Bounced
@@ -59,7 +60,7 @@ impl Prepared<'_, '_> {
 // Metal reflects light, at its front alone, whatever lies outside.
 fn on_metal(step: f64, path: Path, m: &Microsurface<'_>, b: Bounce) -> Bounced
     requires { (m.now.kind ≡ Metal) × (step ≡ step_of m.now.eta) }
-    ensures { outcome result ≡ on_surface path m.now b }
+    ensures { (outside : Outside) → outcome result ≡ on_surface path (beside outside m.now) b }
 {
     if b.backface {
         return lost(path, None);
@@ -67,7 +68,7 @@ fn on_metal(step: f64, path: Path, m: &Microsurface<'_>, b: Bounce) -> Bounced
 
     let uvw = Onb::new(b.normal);
     let wo = uvw.to_local(b.wo);
-    let mfd = m.surface.facets();
+    let mfd = Ggx::new(m.surface.roughness);
     let wh = conductor::normal(wo, mfd, b.disk_point());
     // the roots of Λ(wo) wait for no other: they are worked while those of the normal are waited for
     let facet = Facet::on_metal(mfd, wo, wh);
@@ -105,7 +106,7 @@ fn on_glass(known: Known, path: Path, m: &Microsurface<'_>, b: Bounce) -> Bounce
 
     let uvw = Onb::new(b.normal);
     let wo = uvw.to_local(b.wo);
-    let mfd = m.surface.facets();
+    let mfd = Ggx::new(m.surface.roughness);
     let wh = dielectric::normal(wo, mfd, at.eta, b.disk_point());
     // the roots of Λ(wo) wait for no other: they are worked while those of the normal are waited for
     let facet = Facet::on_glass(mfd, at.eta, wo, wh);

@@ -105,12 +105,15 @@ fn numbers_out(answer: Bounced) -> [f64; OUT]
     ]
 }
 
-// Stores a bounce's numbers from `at` on.
+// Stores a bounce's numbers from `at` on. By hand: copy_from_slice goes through memory and calls memcpy, which takes 3 in
+// 100 of a bounce, and which the library for C would need from outside.
 fn put(output: &mut [f64], at: usize, numbers: &[f64; OUT])
     requires { at + 18 ≤ length output.old }
     ensures { output.new ≡ paste output.old at numbers.now 18 }
 {
-    output[at..at + OUT].copy_from_slice(numbers);
+    for (j, x) in numbers.iter().enumerate() {
+        output[at + j] = *x;
+    }
 }
 
 impl Prepared<'_, '_> {

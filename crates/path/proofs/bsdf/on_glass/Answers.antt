@@ -14,7 +14,7 @@ use Rattle.path.proofs.bsdf.on_glass.Goals as goal
 pub returns-in_default : goal.returns-in_default
 unfolding rest of_bits
 returns-in_default c =
-    let mfd = c.facets-mfd.ensures in
+    let mfd = c.new-mfd.ensures in
     let p = c.disk_point.ensures in
     let kind = rw (← c.m.view_is) at c.requires.0 in
     let known = rw (← c.m.view_is) at c.requires.1 in
@@ -34,7 +34,7 @@ seen_on_glass-seen-requires c = let facet = c.on_glass-facet.ensures in rw (face
 pub returns : goal.returns
 unfolding outcome rest of_bits
 returns c =
-    let mfd = c.facets-mfd.ensures in
+    let mfd = c.new-mfd.ensures in
     let p = c.disk_point.ensures in
     let kind = rw (← c.m.view_is) at c.requires.0 in
     let known = rw (← c.m.view_is) at c.requires.1 in

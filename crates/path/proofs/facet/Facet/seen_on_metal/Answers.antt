@@ -7,6 +7,6 @@ pub returns : goal.returns
 returns c =
     let one = c.requires in
     let facet = c.args.self in (
-      rw (c.pdf_at-pdf.ensures, one) (metal-density _ f0 _ _ _ (rw (← one) facet.is_lambda) _ c.half-half.ensures),
+      rw (c.pdf_at-pdf.ensures) (metal-density _ f0 _ _ _ (rw (← one) facet.is_lambda) _ c.half-half.ensures),
       rw (c.shadowing-q.ensures, one),
     )

@@ -16,7 +16,7 @@ on_glass-requires c = glass_found _ _ _ _ ((told c.in-Ok-Glass.is _ _ c.checked.
 
 pub returns-in-Ok-Metal : goal.returns-in-Ok-Metal
 unfolding bounce answered
-returns-in-Ok-Metal c = rw ((told c.in-Ok-Metal.is _ _ c.checked.ensures).0, ← c.on_metal.ensures)
+returns-in-Ok-Metal c = rw ((told c.in-Ok-Metal.is _ _ c.checked.ensures).0) (c.on_metal.ensures _)
 
 pub returns-in-Ok-Glass : goal.returns-in-Ok-Glass
 unfolding bounce answered
