@@ -24,7 +24,7 @@ fn write_fault(out: &mut Output<'_>, fault: Fault) -> fmt::Result
     writeln!(out, " {fault}")
 }
 
-fn write_too_long(out: &mut Output<'_>, number: u64, most: usize) -> fmt::Result
+fn write_too_long(out: &mut Output<'_>, number: u64, most: u64) -> fmt::Result
     ensures { OnOk result (out.new ≡ put out.old (long_line number most)) }
 {
     writeln!(out, "{number} error line: a line is at most {most} bytes")
@@ -39,7 +39,7 @@ pub fn fault(out: &mut Output<'_>, fault: Fault) -> Outcome
 }
 
 // The answer to the line `number`, which has more than `most` bytes.
-pub fn too_long(out: &mut Output<'_>, number: u64, most: usize) -> Outcome
+pub fn too_long(out: &mut Output<'_>, number: u64, most: u64) -> Outcome
     ensures { result ≡ Outcome.Error }
 {
     let _ = write_too_long(out, number, most);
@@ -77,9 +77,9 @@ pub fn done(out: &mut Output<'_>) -> Outcome
 // How many lines of a job were answered in which way.
 #[derive(Clone, Copy, Default)]
 pub struct Tally {
-    answers: u64,
-    refusals: u64,
-    errors: u64,
+    pub answers: u64,
+    pub refusals: u64,
+    pub errors: u64,
 }
 
 impl Tally {

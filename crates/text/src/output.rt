@@ -25,14 +25,14 @@ impl<'a> Model for Output<'a> {
     ghost view = { λ o. record { written = take o.used o.bytes.now; room = length o.bytes.now - o.used } };
 }
 
-// The glyph of a hexadecimal digit.
+const GLYPHS: &[u8; 16] = b"0123456789abcdef";
+
+// The glyph of a hexadecimal digit. From a table: of a `match` with two ranges the compiler makes steps on all 16 digits in
+// one wide register, and to gather them there takes longer than to look each up.
 fn glyph(d: u8) -> u8
     ensures { d < 16 → result ≡ glyph d }
 {
-    match d {
-        0..=9 => b'0' + d,
-        _ => b'a' - 10 + (d & 15),
-    }
+    GLYPHS[(d & 15) as usize]
 }
 
 // The 16 hexadecimal digits of some bits. By hand: with `{:016x}` a job of bounces takes a tenth more time. By index: behind
@@ -81,14 +81,29 @@ impl<'a> Output<'a> {
         self.used = 0;
     }
 
-    // Puts a text behind the one so far.
+    // Puts a text that there is room for behind the one so far.
+    #[inline(always)]
+    fn whole(&mut self, text: &[u8])
+        requires { length text.now ≤ self.old.room }
+        ensures { self.new ≡ put self.old text.now }
+    {
+        let end = self.used + text.len();
+        self.bytes[self.used..end].copy_from_slice(text);
+        self.used = end;
+    }
+
+    // Puts a text behind the one so far. In two branches, and inlined as `whole` is: so a text of known length is stored
+    // directly, with no call of `memcpy`.
+    #[inline(always)]
     pub fn text(&mut self, text: &[u8])
         ensures { self.new ≡ put self.old text.now }
     {
-        let n = text.len().min(self.bytes.len() - self.used);
-        let end = self.used + n;
-        self.bytes[self.used..end].copy_from_slice(&text[..n]);
-        self.used = end;
+        let room = self.room();
+        if text.len() <= room {
+            self.whole(text);
+        } else {
+            self.whole(&text[..room]);
+        }
     }
 
     // The decimal digits of a value. std promises them where its writing succeeds, but not that it succeeds
@@ -104,19 +119,36 @@ impl<'a> Output<'a> {
         let _ = self.write_decimal(value);
     }
 
-    // A text and a decimal behind it.
+    // A text and a decimal behind it. Inlined, as `text` is.
+    #[inline(always)]
     pub fn labelled(&mut self, label: &[u8], value: u64) {
         self.text(label);
         self.decimal(value);
     }
 
-    // A blank and the number.
+    // A blank and the number, where there may be no room for all.
+    #[cold]
+    #[inline(never)]
     #[tactic(auto, using(crate::proofs::output::Put::put_behind), unfolding(crate::specs::Output::number_text))]
-    pub fn number(&mut self, x: f64)
+    fn cut_number(&mut self, x: f64)
         ensures { self.new ≡ put self.old (number_text x) }
     {
         self.text(b" ");
         self.text(&hex16(patterns::bits(x)));
+    }
+
+    // A blank and the number. Where there is room, apart from `cut_number`: so the digits never lie in an array, and each
+    // is stored into the buffer. A copy of an array has to wait until its single bytes are stored.
+    #[tactic(auto, using(crate::proofs::output::Put::put_behind), unfolding(crate::specs::Output::number_text))]
+    pub fn number(&mut self, x: f64)
+        ensures { self.new ≡ put self.old (number_text x) }
+    {
+        if self.room() < 17 {
+            self.cut_number(x);
+        } else {
+            self.whole(b" ");
+            self.whole(&hex16(patterns::bits(x)));
+        }
     }
 
     #[tactic(auto, using(crate::proofs::output::Put::one_more, crate::proofs::output::Put::put_nothing))]
