@@ -16,7 +16,7 @@ pub laid_back : (xs : List Float) (n : ℕ) → length xs ≡ n → n ≤ 471 �
 unfolding entries_in laid
 laid_back xs n e room = rw (le-leb n 471 room) (take_at xs _ n e)
 
-flag_kept : (flag : Bool) → not (flag_of flag == 0) ≡ flag
+pub flag_kept : (flag : Bool) → not (flag_of flag == 0) ≡ flag
 unfolding flag_of
 flag_kept false = refl
 flag_kept true = refl

@@ -1,8 +1,9 @@
 -- A book's surface in fixed memory, as C has it, and what the calls leave in memory. Definitions only.
-use Rattle.std.specs.Prelude.{ℕ, ◌-◌, ◌==◌, leb, Bool, not, cond, List, [], ◌++◌, map, length, take, drop, replicate, Float}
+use Rattle.std.specs.Prelude.{◌≡◌, ℕ, ◌-◌, ◌==◌, leb, Bool, not, cond, Option, Result, IsSomeAnd, MatchResult, List, [], ◌++◌, map, length, take, drop, replicate, Float}
 use Rattle.floats.specs.Float.{f0, f1}
 use Rattle.numbers.specs.DenseSpectrum.{fine_samples}
-use Rattle.numbers.specs.Refusal.{refuse, ◌then◌, unless_refused, Answer, refused, given, ◌▷◌}
+use Rattle.numbers.specs.Refusal.{refuse, ◌then◌, unless_refused, Answer, refused, given, ◌▷◌, number}
+use Rattle.numbers.specs.declared.refusal.Refusal.{Refusal}
 use Rattle.numbers.specs.Written.{over}
 use Rattle.optics.specs.Surface.{kind_code, kind_of, roughness_of, is_roughness_given, medium}
 use Rattle.optics.specs.declared.microfacet.{Kind.Kind, Kind.TheVariants.Metal, Kind.TheVariants.Glass}
@@ -52,15 +53,19 @@ unfoldable pub outer_made : Kind → ℕ → List Float → List Float
 outer_made Metal n outer = replicate n f0
 outer_made Glass n outer = outer
 
+-- what it offers
+abbrev pub offered_made : Kind → Bool → Float → List Float → List Float → List Float → Offered
+offered_made kind two_sided r eta k outer = record { surface = surface_given kind two_sided r eta k; outer = outer_made kind (length eta) outer }
+
 unfoldable pub make_offered : Kind → Bool → Float → List Float → List Float → List Float → Answer Offered
 make_offered kind two_sided r eta k outer =
     refuse 1 (is_roughness_given r) then check_spectra kind eta k (medium outer)
-    ▷ given (record { surface = surface_given kind two_sided r eta k; outer = outer_made kind (length eta) outer })
+    ▷ given (offered_made kind two_sided r eta k outer)
 
--- what an answer's record offers
-abbrev pub answer_offered : Answer Record → Answer Offered
-answer_offered (refused n) = refused n
-answer_offered (given r) = given (offered r)
+-- what a place has after a surface was to be made in it: a record that offers what was given; what it had before, where that is refused
+abbrev pub MadeIn : Answer Offered → Result Unit Refusal → Option Record → Option Record → Type 0
+MadeIn made result before after =
+    MatchResult result (λ done. IsSomeAnd after (λ r. made ≡ given (offered r))) (λ why. (after ≡ before) × (made ≡ refused (number why)))
 
 -- ---- how many an answer has
 abbrev pub counted : {A : Type 0} → Answer (List A) → Answer ℕ

@@ -1,11 +1,14 @@
 // A book's surface in fixed memory, as C has it too.
-ghost use Rattle.std.specs.Prelude.{◌≡◌, ◌≤◌, true, length, take, replicate};
+ghost use Rattle.std.specs.Prelude.{◌≡◌, ◌≤◌, true, length, take, replicate, IsSomeAnd};
 ghost use Rattle.floats.specs.Float.{f1};
 ghost use Rattle.numbers.specs.DenseSpectrum.{fine_samples};
-ghost use Rattle.numbers.specs.Refusal.{verdict, accepted, answer};
+ghost use Rattle.numbers.specs.Refusal.{verdict, accepted};
+ghost use Rattle.numbers.specs.Written.{over};
+ghost use Rattle.optics.specs.Surface.{medium};
+ghost use Rattle.optics.specs.Check.{check_spectra};
 ghost use Rattle.book.specs.Layout.{is_part};
 ghost use Rattle.book.specs.Surfaces.{part_bytes, surface_in, roughness_kept, offered_on, air_outside, check_read, check_written};
-ghost use Rattle.book.specs.Record.{surface_of, laid, offered, record_of, entries_in, outer_made, make_offered, answer_offered};
+ghost use Rattle.book.specs.Record.{surface_of, laid, offered, record_of, entries_in, outer_made, offered_made, make_offered, MadeIn};
 
 pub use crate::bytes::PLACES;
 use crate::{bytes, layout};
@@ -52,25 +55,25 @@ pub(crate) fn ones(places: &mut [f64; PLACES], n: usize)
     places[..n].fill(1.0);
 }
 
-// A spectrum's entries, in its places.
-fn laid(xs: &[f64]) -> [f64; PLACES]
+// Puts a spectrum's entries at the front of its places. What stands behind them stays, since nothing reads it: clearing it
+// would take longer than the entries.
+#[tactic(auto, unfolding(numbers::specs::Written::over))]
+fn put(places: &mut [f64; PLACES], xs: &[f64])
     requires { length xs.now ≤ fine_samples }
-    ensures { result ≡ laid xs.now }
+    ensures { places.new ≡ over xs.now places.old }
 {
-    let mut places = [0.0; PLACES];
     places[..xs.len()].copy_from_slice(xs);
-    places
 }
 
-// The places of what lies outside a surface of so many entries. Metal's outer spectrum isn't read.
-#[tactic(auto, unfolding(crate::specs::Record::outer_made), using(crate::proofs::Records::laid_back, crate::proofs::record::Made::zeros_back))]
-fn outer_laid(kind: Kind, n: usize, outer: &[f64]) -> [f64; PLACES]
+// Puts what lies outside a surface of so many entries at the front of its places. Metal's outer spectrum isn't read.
+#[tactic(auto, unfolding(numbers::specs::Written::over, crate::specs::Record::outer_made))]
+fn put_outer(places: &mut [f64; PLACES], kind: Kind, n: usize, outer: &[f64])
     requires { (length (outer_made kind n outer.now) ≡ n) × (n ≤ fine_samples) }
-    ensures { entries_in n result ≡ outer_made kind n outer.now }
+    ensures { places.new ≡ over (outer_made kind n outer.now) places.old }
 {
     match kind {
-        Kind::Metal => [0.0; PLACES],
-        Kind::Glass => laid(outer),
+        Kind::Metal => places[..n].fill(0.0),
+        Kind::Glass => put(places, outer),
     }
 }
 
@@ -87,29 +90,61 @@ impl Record {
         outer: [0.0; PLACES],
     };
 
-    // What a roughness as given and spectra make, or what they are refused for. Metal's outer spectrum isn't read.
-    #[tactic(auto, unfolding(crate::specs::Record::make_offered, numbers::specs::Refusal::number), using(crate::proofs::record::Made::tables))]
-    pub fn made(
+    // Becomes the surface that a roughness as given and spectra make.
+    #[tactic(auto, using(crate::proofs::record::Made::tables))]
+    fn set(&mut self, kind: Kind, two_sided: bool, given: f64, spectra: &Spectra<'_>)
+        requires { check_spectra kind spectra.now.eta spectra.now.k (medium spectra.now.outer) ≡ accepted }
+        ensures { offered self.new ≡ offered_made kind two_sided given spectra.now.eta spectra.now.k spectra.now.outer }
+    {
+        let n = spectra.eta.values.len();
+        self.kind = u64::from(kind);
+        self.two_sided = two_sided as u64;
+        self.given = given;
+        self.roughness = Vec2::splat(check::raised(given));
+        self.entries = n;
+        put(&mut self.eta, spectra.eta.values);
+        put(&mut self.k, spectra.k.values);
+        put_outer(&mut self.outer, kind, n, spectra.outer.values);
+    }
+
+    // The same in a place that holds no record yet. In a function of its own, for the record that it has room for.
+    fn set_first(
+        place: &mut Option<Record>,
         kind: Kind,
         two_sided: bool,
         given: f64,
         spectra: &Spectra<'_>,
-    ) -> Result<Record, Refusal>
-        ensures { answer_offered (answer result) ≡ make_offered kind two_sided given spectra.now.eta spectra.now.k spectra.now.outer }
+    )
+        requires { check_spectra kind spectra.now.eta spectra.now.k (medium spectra.now.outer) ≡ accepted }
+        ensures { IsSomeAnd place.new
+            (λ r. offered r ≡ offered_made kind two_sided given spectra.now.eta spectra.now.k spectra.now.outer) }
+    {
+        *place = Some(Record::NOTHING);
+        if let Some(record) = place {
+            record.set(kind, two_sided, given, spectra);
+        }
+    }
+
+    // What a roughness as given and spectra make, in its place, or what they are refused for, which leaves the place as it
+    // was. Metal's outer spectrum isn't read. In place: a record is large, and handed on by value it was cleared and copied
+    // at each step.
+    #[tactic(auto, unfolding(crate::specs::Record::make_offered, numbers::specs::Refusal::number))]
+    pub fn make_in(
+        place: &mut Option<Record>,
+        kind: Kind,
+        two_sided: bool,
+        given: f64,
+        spectra: &Spectra<'_>,
+    ) -> Check
+        ensures { MadeIn (make_offered kind two_sided given spectra.now.eta spectra.now.k spectra.now.outer) result place.old place.new }
     {
         refuse(Refusal::Roughness, is_roughness_given(given))?;
         check_spectra(kind, spectra)?;
-        let n = spectra.eta.values.len();
-        Ok(Record {
-            kind: u64::from(kind),
-            two_sided: two_sided as u64,
-            given,
-            roughness: Vec2::splat(check::raised(given)),
-            entries: n,
-            eta: laid(spectra.eta.values),
-            k: laid(spectra.k.values),
-            outer: outer_laid(kind, n, spectra.outer.values),
-        })
+        match place {
+            Some(record) => record.set(kind, two_sided, given, spectra),
+            None => Record::set_first(place, kind, two_sided, given, spectra),
+        }
+        Ok(())
     }
 
     // Becomes the surface of a part.

@@ -3,7 +3,7 @@
 #![tactic(auto)]
 
 pub mod answering;
-pub mod entries;
+mod entries;
 pub mod failure;
 pub mod file;
 mod input;

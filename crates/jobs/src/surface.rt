@@ -1,15 +1,26 @@
 // A surface as a job's line has it.
+ghost use Rattle.std.specs.Prelude.{◌≡◌, ◌≤◌};
+ghost use Rattle.text.specs.Line.{left, past_word};
+ghost use Rattle.book.specs.Record.{MadeIn};
+ghost use Rattle.jobs.specs.Surface.{entries_of, samples, kind, outer, past_outer, surface, described, described_by, entries_by, spread_all};
+ghost use Rattle.jobs.specs.Making.{offered_by, HeldAs};
+
 use crate::entries::Entries;
+use crate::places::Places;
 use crate::sizes;
 use book::record::Record;
 use numbers::dense_spectrum::DenseSpectrum;
-use numbers::refusal::Refusal;
+use numbers::refusal::Check;
 use optics::microfacet::{Kind, Spectra};
 use text::faults::{Fault, Wrong};
 use text::line::Line;
 
 // By hand: a `TryFrom` of a word for optics' `Kind` can stand in optics alone, which knows no words of a job.
-fn kind(line: &mut Line<'_>) -> Result<Kind, Fault> {
+#[tactic(auto, unfolding(crate::specs::Surface::kind))]
+fn kind(line: &mut Line<'_>) -> Result<Kind, Fault>
+    ensures value { result ≡ kind (left line.old) }
+    ensures rest { left line.new ≡ past_word (left line.old) }
+{
     match line.word()? {
         b"metal" => Ok(Kind::Metal),
         b"glass" => Ok(Kind::Glass),
@@ -17,37 +28,10 @@ fn kind(line: &mut Line<'_>) -> Result<Kind, Fault> {
     }
 }
 
-// The word `name` and the entries of a spectrum.
-fn spectrum(line: &mut Line<'_>, name: &[u8], missing: Wrong) -> Result<Entries, Fault> {
-    line.keyword(name, missing)?;
-    Entries::read(line)
-}
-
-// The outer spectrum, where the line has one, and else the 1.0 of air. Metal has none, whatever its line
-// says.
-fn outer(line: &mut Line<'_>, kind: Kind) -> Result<Entries, Fault> {
-    let mut given = Entries::lone(1.0);
-    if line.optional(b"outer") {
-        given = Entries::read(line)?;
-    }
-    match kind {
-        Kind::Metal => Ok(Entries::none()),
-        Kind::Glass => Ok(given),
-    }
-}
-
-// How many entries a lone one stands for: as many as the first spectrum that is a table has, and where none
-// is, as many as lumo's.
-fn samples(spectra: [DenseSpectrum<'_>; 3]) -> usize {
-    spectra
-        .iter()
-        .find(|spectrum| spectrum.is_table())
-        .map_or(DenseSpectrum::SAMPLES, |spectrum| spectrum.values.len())
-}
-
-// What a line has of a surface.
+// What a line has of a surface. One lives as long as a job is read, and each line is read into it: its spectra are large, and
+// where they were cleared, or handed on by value, that took longer than all else.
 #[derive(Drop)]
-struct Words {
+pub struct Words {
     kind: Kind,
     two_sided: bool,
     given: f64,
@@ -57,43 +41,106 @@ struct Words {
 }
 
 impl Words {
-    // KIND [two-sided] ROUGHNESS eta ENTRIES k ENTRIES [outer ENTRIES]
-    fn read(line: &mut Line<'_>) -> Result<Words, Fault> {
-        let kind = kind(line)?;
-        let two_sided = line.optional(b"two-sided");
-        let given = line.number()?;
-        let mut eta = spectrum(line, b"eta", Wrong::Eta)?;
-        let mut k = spectrum(line, b"k", Wrong::K)?;
-        let mut outer = outer(line, kind)?;
-        line.end()?;
-        let samples = samples([eta.spectrum(), k.spectrum(), outer.spectrum()]);
-        eta.spread(samples);
-        k.spread(samples);
-        outer.spread(samples);
-        Ok(Words {
-            kind,
-            two_sided,
-            given,
-            eta,
-            k,
-            outer,
-        })
+    // What stands there before a line was read.
+    pub const NONE: Words = Words {
+        kind: Kind::Metal,
+        two_sided: false,
+        given: 0.0,
+        eta: Entries::NONE,
+        k: Entries::NONE,
+        outer: Entries::NONE,
+    };
+
+    // The outer spectrum, where the line has one, and else the 1.0 of air. Metal has none, whatever its line
+    // says.
+    #[tactic(auto, unfolding(crate::specs::Surface::outer, crate::specs::Surface::past_outer))]
+    fn read_outer(&mut self, line: &mut Line<'_>) -> Result<(), Fault>
+        ensures value { entries_by result self.new.outer ≡ outer self.old.kind (left line.old) }
+        ensures rest { left line.new ≡ past_outer (left line.old) }
+        ensures kind { self.new.kind ≡ self.old.kind }
+        ensures flag { self.new.two_sided ≡ self.old.two_sided }
+        ensures given { self.new.given ≡ self.old.given }
+        ensures eta { self.new.eta ≡ self.old.eta }
+        ensures k { self.new.k ≡ self.old.k }
+    {
+        self.outer.set_lone(1.0);
+        if line.optional(b"outer") {
+            self.outer.read(line)?;
+        }
+        match self.kind {
+            Kind::Metal => self.outer.clear(),
+            Kind::Glass => {}
+        }
+        Ok(())
     }
 
-    // The surface, which has as many entries of each spectrum.
-    fn made(&self) -> Result<Record, Refusal> {
+    // How many entries a lone one stands for: as many as the first spectrum that is a table has, and where none is, as many
+    // as lumo's.
+    #[tactic(auto, unfolding(crate::specs::Surface::samples, numbers::specs::DenseSpectrum::is_table))]
+    fn samples(&self) -> usize
+        ensures value { result ≡ samples (entries_of self.now.eta) (entries_of self.now.k) (entries_of self.now.outer) }
+        ensures bound { result ≤ 471 }
+    {
+        let eta = self.eta.spectrum();
+        if eta.is_table() {
+            return eta.values.len();
+        }
+        let k = self.k.spectrum();
+        if k.is_table() {
+            return k.values.len();
+        }
+        let outer = self.outer.spectrum();
+        if outer.is_table() {
+            return outer.values.len();
+        }
+        DenseSpectrum::SAMPLES
+    }
+
+    // Puts each lone entry at every wavelength.
+    fn spread(&mut self)
+        ensures { described self.new ≡ spread_all (described self.old) }
+    {
+        let samples = self.samples();
+        self.eta.spread(samples);
+        self.k.spread(samples);
+        self.outer.spread(samples);
+    }
+
+    // KIND [two-sided] ROUGHNESS eta ENTRIES k ENTRIES [outer ENTRIES]: becomes what the line has, unless that is wrong.
+    #[tactic(auto, unfolding(crate::specs::Surface::surface))]
+    pub fn read(&mut self, line: &mut Line<'_>) -> Result<(), Fault>
+        ensures { described_by result self.new ≡ surface (left line.old) }
+    {
+        self.kind = kind(line)?;
+        self.two_sided = line.optional(b"two-sided");
+        self.given = line.number()?;
+        line.keyword(b"eta", Wrong::Eta)?;
+        self.eta.read(line)?;
+        line.keyword(b"k", Wrong::K)?;
+        self.k.read(line)?;
+        self.read_outer(line)?;
+        line.end()?;
+        self.spread();
+        Ok(())
+    }
+
+    // Makes the surface, which has as many entries of each spectrum, in its place. One that is refused leaves the place as
+    // it was.
+    pub fn make_in(&self, place: &mut Option<Record>) -> Check
+        ensures { MadeIn (offered_by (described self.now)) result place.old place.new }
+    {
         let spectra = Spectra {
             eta: self.eta.spectrum(),
             k: self.k.spectrum(),
             outer: self.outer.spectrum(),
         };
-        Record::made(self.kind, self.two_sided, self.given, &spectra)
+        Record::make_in(place, self.kind, self.two_sided, self.given, &spectra)
     }
-}
 
-// The index that a line names, and the surface that is made for it, or why it is refused.
-pub fn read(line: &mut Line<'_>) -> Result<(u64, Result<Record, Refusal>), Fault> {
-    let i = line.index(sizes::SURFACE)?;
-    let words = Words::read(line)?;
-    Ok((i, words.made()))
+    // Makes the surface, and holds it as `i`. One that is refused leaves what is held as it was.
+    pub fn keep(&self, i: u64, surfaces: &mut Places<Record, { sizes::SURFACES }>) -> Check
+        ensures { HeldAs 64 i (offered_by (described self.now)) result surfaces.old.held surfaces.new.held }
+    {
+        self.make_in(&mut surfaces.held[i as usize % sizes::SURFACES])
+    }
 }

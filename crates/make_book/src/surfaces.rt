@@ -6,16 +6,19 @@ use book::{BOOK_MAX, writing};
 use jobs::answering::Answers;
 use jobs::failure::Failure;
 use jobs::places::Places;
-use jobs::{sizes, surface};
-use numbers::refusal::Refusal;
+use jobs::sizes;
+use jobs::surface::Words;
+use numbers::refusal::{Check, Refusal};
 use text::faults::Fault;
 use text::line::Line;
 
-// `number` is the next line's; `passing`, whether the rest of a line that is too long is being passed over; `stopped`,
+// Each surface is made in a place of its own, before it is held. `number` is the next line's; `passing`, whether the rest of a line that is too long is being passed over; `stopped`,
 // whether a line was wrong, after which nothing is written.
 #[derive(Drop)]
 pub struct Surfaces<'a, P: Print + Eprint> {
     rt: &'a P,
+    words: Words,
+    made: Option<Record>,
     held: Places<Record, { sizes::SURFACES }>,
     number: u64,
     passing: bool,
@@ -33,11 +36,23 @@ impl<'a, P: Print + Eprint> Surfaces<'a, P> {
     pub fn new(rt: &'a P) -> Surfaces<'a, P> {
         Surfaces {
             rt,
+            words: Words::NONE,
+            made: None,
             held: Places::new(),
             number: 1,
             passing: false,
             stopped: false,
         }
+    }
+
+    // Makes the surface of the words that were read, and holds it as `i`, if it may stand in a book.
+    fn keep(&mut self, i: u64) -> Check {
+        self.words.make_in(&mut self.made)?;
+        if let Some(surface) = &self.made {
+            surface.check_written()?;
+            self.held.keep(i, *surface);
+        }
+        Ok(())
     }
 
     // Holds the surface of a line, if it may stand in a book.
@@ -49,13 +64,9 @@ impl<'a, P: Print + Eprint> Surfaces<'a, P> {
         if sizes::LINE < text.len() {
             return Err(Wrong::TooLong);
         }
-        let (i, made) = surface::read(&mut line).map_err(Wrong::Fault)?;
-        let surface = made.map_err(|why| Wrong::Refused(i, why))?;
-        surface
-            .check_written()
-            .map_err(|why| Wrong::Refused(i, why))?;
-        self.held.keep(i, surface);
-        Ok(())
+        let i = line.index(sizes::SURFACE).map_err(Wrong::Fault)?;
+        self.words.read(&mut line).map_err(Wrong::Fault)?;
+        self.keep(i).map_err(|why| Wrong::Refused(i, why))
     }
 
     // Says what is wrong with the line. Where that can't be written either, nothing is left to be said.

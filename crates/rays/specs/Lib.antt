@@ -1,2 +1,3 @@
 -- What the contracts of the crate cite: definitions only.
+pub mod Numbers
 pub mod Store

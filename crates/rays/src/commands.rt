@@ -1,10 +1,12 @@
 // The commands of a job. Each reads its line and calls the model; what it answers is then written in one place.
-ghost use Rattle.std.specs.Prelude.{◌≡◌, MatchOption, None, Some};
+ghost use Rattle.std.specs.Prelude.{◌≡◌, MatchOption, None, Some, OnOk};
 ghost use Rattle.path.specs.Answer.{outcome, path_of};
 ghost use Rattle.book.specs.Record.{offered};
 ghost use Rattle.book_path.specs.BookBounce.{bounce_on_book};
 ghost use Rattle.path.specs.declared.records.Path.{Path};
+ghost use Rattle.text.specs.Line.{left};
 ghost use Rattle.rays.specs.Store.{path_in, keep_path};
+ghost use Rattle.rays.specs.Numbers.{vec3, color, past_three, past_four};
 
 use crate::replies::{Measure, Reply};
 use crate::sizes::{PATH, PATHS};
@@ -13,12 +15,13 @@ use book::record::Record;
 use book::{BOOK_MAX, SURFACES_MAX, reading};
 use candidates::owned::List;
 use jobs::places::Places;
-use jobs::{file, sizes, surface};
+use jobs::surface::Words;
+use jobs::{file, sizes};
 use numbers::vec3::Vec3;
 use optics::bxdf::dielectric;
 use optics::color::Color;
 use optics::microfacet;
-use optics::microfacet::{Kind, Microsurface};
+use optics::microfacet::{Ggx, Kind, Microsurface};
 use path::records::{Bounce, Bounced, Path};
 use std::fs::Files;
 use text::answers;
@@ -32,9 +35,10 @@ fn at_word(word: u64, wrong: Wrong) -> Fault {
     Fault { word, wrong }
 }
 
-// What a job holds between two lines.
+// What a job holds between two lines, and the words of a surface, which each line of one is read into.
 #[derive(Drop)]
 pub struct Job {
+    words: Words,
     surfaces: Places<Record, { sizes::SURFACES }>,
     paths: Places<Path, PATHS>,
     list: List,
@@ -42,7 +46,12 @@ pub struct Job {
 
 // ---- words of a line
 
-fn vec3(line: &mut Line<'_>) -> Result<Vec3, Fault> {
+// Three numbers, x, y and z in this order.
+#[tactic(auto, unfolding(crate::specs::Numbers::vec3))]
+fn vec3(line: &mut Line<'_>) -> Result<Vec3, Fault>
+    ensures value { result ≡ vec3 (left line.old) }
+    ensures rest { OnOk result (left line.new ≡ past_three (left line.old)) }
+{
     Ok(Vec3 {
         x: line.number()?,
         y: line.number()?,
@@ -50,7 +59,12 @@ fn vec3(line: &mut Line<'_>) -> Result<Vec3, Fault> {
     })
 }
 
-fn color(line: &mut Line<'_>) -> Result<Color, Fault> {
+// Four numbers, s0 to s3 in this order.
+#[tactic(auto, unfolding(crate::specs::Numbers::color))]
+fn color(line: &mut Line<'_>) -> Result<Color, Fault>
+    ensures value { result ≡ color (left line.old) }
+    ensures rest { OnOk result (left line.new ≡ past_four (left line.old)) }
+{
     Ok(Color {
         s0: line.number()?,
         s1: line.number()?,
@@ -79,7 +93,7 @@ fn bounce_of(line: &mut Line<'_>) -> Result<Bounce, Fault> {
 // Smooth facets send light into one direction whatever the index, which is then not read: that takes a pass
 // over the outer spectrum.
 fn is_one_direction(m: &Microsurface<'_>, leading: f64) -> bool {
-    let facets = m.surface.facets();
+    let facets = Ggx::new(m.surface.roughness);
     if facets.is_delta() {
         return true;
     }
@@ -127,6 +141,7 @@ fn bounce_held(
 impl Job {
     pub fn new() -> Job {
         Job {
+            words: Words::NONE,
             surfaces: Places::new(),
             paths: Places::new(),
             list: List::new(),
@@ -135,8 +150,9 @@ impl Job {
 
     // surface INDEX KIND [two-sided] ROUGHNESS eta ENTRIES k ENTRIES [outer ENTRIES]
     fn surface(&mut self, line: &mut Line<'_>) -> Result<Reply, Fault> {
-        let (i, made) = surface::read(line)?;
-        let check = made.map(|surface| self.surfaces.keep(i, surface));
+        let i = line.index(sizes::SURFACE)?;
+        self.words.read(line)?;
+        let check = self.words.keep(i, &mut self.surfaces);
         Ok(Reply::Surface(i, check))
     }
 

@@ -34,7 +34,7 @@ impl<'a, P: Files + Print> Figures<'a, P> {
     }
 
     fn too_long(&mut self) -> Outcome {
-        answers::too_long(&mut self.out, self.number, sizes::LINE)
+        answers::too_long(&mut self.out, self.number, sizes::LINE as u64)
     }
 
     fn outcome(&mut self, text: &[u8]) -> Outcome {

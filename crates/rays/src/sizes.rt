@@ -16,4 +16,4 @@ pub const PATH: Indices = Indices {
 pub const ANSWER: usize = 2048;
 
 // The buffer of answers that are to be written.
-pub const OUTPUT: usize = 16 * ANSWER;
+pub const OUTPUT: usize = 8 * ANSWER;

@@ -1,8 +1,8 @@
 -- The record that a roughness and spectra make: its spectra are tables of one spacing, which have their places (`tables`), and it offers
 -- what it was made of (`made_offers`).
-use Rattle.std.proofs.Common.{◌≡◌, ℕ, ◌≤◌, Bool, T, ◌==◌, inl, inr, eqb-true, eqb→eq, le-leb, List, length, replicate, arith, sym, ap, Float}
+use Rattle.std.proofs.Common.{◌≡◌, ℕ, ◌≤◌, Bool, T, ◌==◌, inl, inr, eqb-true, eqb→eq, le-leb, List, length, take_at, arith, refl, sym, Float}
 use Rattle.std.proofs.lemmas.Bool.{or_cases}
-use Rattle.std.proofs.lemmas.List.{take-replicate, length-replicate}
+use Rattle.std.proofs.lemmas.List.{length-replicate}
 use lib.Ieee.Bits.{is_true}
 use lib.Ieee.Fits.{and_l, and_r}
 use Rattle.floats.specs.Float.{f0}
@@ -11,11 +11,13 @@ use Rattle.numbers.specs.Refusal.{accepted}
 use Rattle.numbers.specs.Vec2.{splat}
 use Rattle.numbers.proofs.refusal.Checks.{test_passed, first_passed, next_passed}
 use Rattle.optics.specs.declared.microfacet.{Kind.Kind, Kind.TheVariants.Metal, Kind.TheVariants.Glass}
-use Rattle.optics.specs.Surface.{medium, kind_code, raised, eta_holds, k_holds, outer_holds}
+use Rattle.optics.specs.Surface.{medium, kind_code, raised, roughness_of, eta_holds, k_holds, outer_holds}
 use Rattle.optics.specs.Check.{check_spectra}
-use Rattle.book.specs.Surfaces.{BookSurface, flag_of, surface_given}
-use Rattle.book.specs.Record.{laid, entries_in, surface_of, offered, record_of, outer_made}
-use Rattle.book.proofs.Records.{surface_back}
+use Rattle.numbers.specs.Written.{over}
+use Rattle.book.specs.Surfaces.{flag_of}
+use Rattle.book.specs.Record.{entries_in, surface_of, offered, outer_made, offered_made}
+use Rattle.book.proofs.Surfaces.{kind_back, kind_small}
+use Rattle.book.proofs.Records.{flag_kept}
 
 -- a table has its places
 table_places : (xs : List Float) → T (is_table xs) → length xs ≤ 471
@@ -40,25 +42,32 @@ pub record Tables (kind : Kind) (eta k outer : List Float) : Type 0 where
   pub as_many : length k ≡ length eta
   pub outside : length (outer_made kind (length eta) outer) ≡ length eta
 
-pub tables : (kind : Kind) (eta k outer : List Float) → accepted ≡ check_spectra kind eta k (medium outer) → Tables kind eta k outer
+pub tables : (kind : Kind) (eta k outer : List Float) → check_spectra kind eta k (medium outer) ≡ accepted → Tables kind eta k outer
 unfolding check_spectra eta_holds
 tables kind eta k outer h =
-    let two = first_passed _ _ (sym h) in
+    let two = first_passed _ _ h in
     let of_eta = test_passed 2 _ (first_passed _ _ two) in
     record {
       places = table_places eta (and_l _ _ of_eta);
       as_many = k_long kind eta k (test_passed 3 _ (next_passed _ _ two));
-      outside = outer_long kind eta outer (test_passed 13 _ (next_passed _ _ (sym h)));
+      outside = outer_long kind eta outer (test_passed 13 _ (next_passed _ _ h));
     }
 
-pub zeros_back : (n : ℕ) → n ≤ 471 → entries_in n (replicate 471 f0) ≡ replicate n f0
-unfolding entries_in
-zeros_back n room = rw (le-leb n 471 room) (take-replicate n 471 f0 room)
+-- entries at the front of their places
+over_back : (xs places : List Float) (n : ℕ) → length xs ≡ n → n ≤ 471 → entries_in n (over xs places) ≡ xs
+unfolding entries_in over
+over_back xs places n e room = rw (le-leb n 471 room) (take_at xs _ n e)
 
-pub made_offers : (kind : Kind) (flag : Bool) (r : Float) (eta k outer places : List Float) → Tables kind eta k outer
-    → entries_in (length eta) places ≡ outer_made kind (length eta) outer
-    → offered (record { kind = kind_code kind; two_sided = flag_of flag; given = r; roughness = splat (raised r); entries = length eta; eta = laid eta; k = laid k; outer = places })
-    ≡ record { surface = surface_given kind flag r eta k; outer = outer_made kind (length eta) outer }
-unfolding offered surface_of record_of
-made_offers kind flag r eta k outer places t is =
-    rw is (ap (λ (s : BookSurface). record { surface = s; outer = outer_made kind (length eta) outer }) (surface_back (surface_given kind flag r eta k) t.places t.as_many))
+pub made_offers : (kind : Kind) (flag : Bool) (r : Float) (eta k outer p q s : List Float) → Tables kind eta k outer
+    → offered (record { kind = kind_code kind; two_sided = flag_of flag; given = r; roughness = splat (raised r); entries = length eta; eta = over eta p; k = over k q; outer = over (outer_made kind (length eta) outer) s })
+    ≡ offered_made kind flag r eta k outer
+unfolding offered surface_of roughness_of
+made_offers kind flag r eta k outer p q s t =
+    rw (
+      kind_back kind,
+      flag_kept flag,
+      is_true _ (kind_small kind),
+      over_back eta p (length eta) refl t.places,
+      over_back k q (length eta) t.as_many t.places,
+      over_back (outer_made kind (length eta) outer) s (length eta) t.outside t.places,
+    ) refl
