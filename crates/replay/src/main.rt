@@ -100,10 +100,12 @@ fn step<P: Print>(
     if spectra.read(file, head) {
         return Ok(());
     }
+    // the record is read before the family behind it is counted out: a file may be a pipe
+    let input = Input::read(file, head.ins);
     counts.begin(Family::of(head.number, spectra.in_air()))?;
     let mut case = Case {
         number: head.number,
-        input: Input::read(file, head.ins),
+        input,
         file,
     };
     let same = holds(&mut case, spectra);
@@ -115,11 +117,11 @@ fn replay(rt: &impl Print, file: &mut File) -> io::Result<()> {
     let mut counts = Counts {
         rt,
         line: 0,
-        // of no record yet: it is never printed
+        // of no record yet: it is printed of a file that has none
         family: Family::Unknown(0),
         tally: Tally::default(),
     };
-    for line in 1..MOST {
+    for line in 1..=MOST {
         let Some(head) = record::read_head(file) else {
             return println!(rt; "{counts}");
         };

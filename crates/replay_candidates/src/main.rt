@@ -79,7 +79,7 @@ fn replay(rt: &impl Print, file: &mut File) -> io::Result<()> {
         lists: 0,
         calls: Tally::default(),
     };
-    for line in 1..MOST {
+    for line in 1..=MOST {
         let Some(head) = record::read_head(file) else {
             break;
         };
