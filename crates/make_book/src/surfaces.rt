@@ -12,8 +12,8 @@ use numbers::refusal::{Check, Refusal};
 use text::faults::Fault;
 use text::line::Line;
 
-// Each surface is made in a place of its own, before it is held. `number` is the next line's; `passing`, whether the rest of a line that is too long is being passed over; `stopped`,
-// whether a line was wrong, after which nothing is written.
+// Each surface is made in a place of its own, before it is held. `number` is the next line's; `passing`, whether the rest
+// of a line that is too long is being passed over; `stopped`, whether a line was wrong, after which nothing is written.
 #[derive(Drop)]
 pub struct Surfaces<'a, P: Print + Eprint> {
     rt: &'a P,
