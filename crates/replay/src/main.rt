@@ -100,7 +100,7 @@ fn step<P: Print>(
     if spectra.read(file, head) {
         return Ok(());
     }
-    // the record is read before the family behind it is counted out: a file may be a pipe
+    // the record is read first, and then the family before it counted out: a file may be a pipe
     let input = Input::read(file, head.ins);
     counts.begin(Family::of(head.number, spectra.in_air()))?;
     let mut case = Case {
