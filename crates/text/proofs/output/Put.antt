@@ -1,6 +1,8 @@
--- What is put behind what was put is put as one text, also by std's writing in parts: laws of `take` and `length`, part by part.
-use Rattle.std.proofs.Common.{◌≡◌, ℕ, zero, suc, ◌+◌, ◌-◌, ◌<◌, List, [], ◌∷◌, ◌++◌, append_assoc, append-nil, length, get_or, take, drop, arith, refl, sym, ap, ◌∙◌, Float, length-append}
+-- What is put behind what was put is put as one text, also by std's writing in parts, and what is copied into the buffer is put: laws of `take` and `length`, part by part.
+use Rattle.std.proofs.Common.{◌≡◌, ℕ, zero, suc, ◌+◌, ◌-◌, ◌<◌, ◌≤◌, List, [], ◌∷◌, ◌++◌, append_assoc, append-nil, length, get_or, take, drop, arith, refl, sym, ap, ◌∙◌, Float, length-append}
 use Rattle.std.proofs.Math.Nat.{sub-zero, zero-sub}
+use Rattle.std.proofs.lemmas.Grind.{common_steps}
+use borrow.Rule.Slice.PartMut.{put_mid}
 use Rattle.std.proofs.lemmas.List.{at_drop_more}
 use Rattle.std.specs.List.{FoldsTo, concat}
 use Rattle.std.specs.Fmt.{WritesInCalls}
@@ -43,3 +45,8 @@ all_put (Err failed) o n t w = tt
 pub one_more : (o : Text) (xs : List Float) (i : ℕ) (d : Float) → i < length xs
     → put (put o (number_text (get_or xs i d))) (numbers_text (drop (i + 1) xs)) ≡ put o (numbers_text (drop i xs))
 one_more o xs i d within = put_behind o (number_text (get_or xs i d)) (numbers_text (drop (i + 1) xs)) ∙ ap (put o) (sym (at_drop_more numbers_text xs i d within))
+
+-- what is copied behind the bytes that are used, where there is room for all of it
+pub copied : (bytes text part : List ℕ) (used : ℕ) → used ≤ length bytes → length text ≤ length bytes - used → part ≡ text
+    → (let end = used + length text in let after = put_mid used (end - used) bytes part in record { written = take end after; room = length after - end }) ≡ put (record { written = take used bytes; room = length bytes - used }) text
+copied bytes text part used within room is = grind (arith, common_steps)
