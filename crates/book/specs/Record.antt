@@ -67,6 +67,11 @@ abbrev pub MadeIn : Answer Offered → Result Unit Refusal → Option Record →
 MadeIn made result before after =
     MatchResult result (λ done. IsSomeAnd after (λ r. made ≡ given (offered r))) (λ why. (after ≡ before) × (made ≡ refused (number why)))
 
+-- what an answer's record offers
+abbrev pub answer_offered : Answer Record → Answer Offered
+answer_offered (refused n) = refused n
+answer_offered (given r) = given (offered r)
+
 -- ---- how many an answer has
 abbrev pub counted : {A : Type 0} → Answer (List A) → Answer ℕ
 counted (refused n) = refused n

@@ -2,13 +2,13 @@
 ghost use Rattle.std.specs.Prelude.{◌≡◌, ◌≤◌, true, length, take, replicate, IsSomeAnd};
 ghost use Rattle.floats.specs.Float.{f1};
 ghost use Rattle.numbers.specs.DenseSpectrum.{fine_samples};
-ghost use Rattle.numbers.specs.Refusal.{verdict, accepted};
+ghost use Rattle.numbers.specs.Refusal.{verdict, accepted, answer};
 ghost use Rattle.numbers.specs.Written.{over};
 ghost use Rattle.optics.specs.Surface.{medium};
 ghost use Rattle.optics.specs.Check.{check_spectra};
 ghost use Rattle.book.specs.Layout.{is_part};
 ghost use Rattle.book.specs.Surfaces.{part_bytes, surface_in, roughness_kept, offered_on, air_outside, check_read, check_written};
-ghost use Rattle.book.specs.Record.{surface_of, laid, offered, record_of, entries_in, outer_made, offered_made, make_offered, MadeIn};
+ghost use Rattle.book.specs.Record.{surface_of, laid, offered, record_of, entries_in, outer_made, offered_made, make_offered, MadeIn, answer_offered};
 
 pub use crate::bytes::PLACES;
 use crate::{bytes, layout};
@@ -145,6 +145,20 @@ impl Record {
             None => Record::set_first(place, kind, two_sided, given, spectra),
         }
         Ok(())
+    }
+
+    // The same, handed out.
+    pub fn made(
+        kind: Kind,
+        two_sided: bool,
+        given: f64,
+        spectra: &Spectra<'_>,
+    ) -> Result<Record, Refusal>
+        ensures { answer_offered (answer result) ≡ make_offered kind two_sided given spectra.now.eta spectra.now.k spectra.now.outer }
+    {
+        let mut place = None;
+        Record::make_in(&mut place, kind, two_sided, given, spectra)?;
+        Ok(place.unwrap())
     }
 
     // Becomes the surface of a part.

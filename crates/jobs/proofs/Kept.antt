@@ -1,6 +1,8 @@
--- What places hold after the entries of a line were read to them: those that are kept of it (`kept_read`), or what is wrong (`kept_wrong`).
-use Rattle.std.proofs.Common.{◌≡◌, ℕ, ◌≤◌, Result, Ok, Err, List, length, take, drop, take_at, min, le-leb, arith, ap, Float}
-use Rattle.std.proofs.lemmas.List.{take_min, length-take}
+-- What places hold after the entries of a line were read to them: those that are kept of it (`kept_read`), or what is wrong (`kept_wrong`); after they were filled (`filled`) or not (`dropped`); what they lend (`lent`).
+use Rattle.std.proofs.Common.{◌≡◌, ℕ, ◌<◌, ◌≤◌, Option, Some, None, Bor, unwrap_or, [], Result, Ok, Err, List, length, take, drop, ◌++◌, replicate, take_at, min, le-leb, arith, ap, Float}
+use Rattle.std.specs.List.{PartBy}
+use Rattle.std.proofs.lemmas.Grind.{common_steps}
+use Rattle.std.proofs.lemmas.List.{take_min, length-take, length-replicate}
 use Rattle.text.specs.declared.faults.Fault.{Fault}
 use Rattle.text.specs.Line.{Left, read_entries, entries, with_entries, put_first, checked_until, spectrum_ends, and_then}
 use Rattle.jobs.specs.Surface.{entries_of, kept}
@@ -35,3 +37,23 @@ kept_wrong l n f is = go (checked_until spectrum_ends (length l.rest) l) is
         → Err f ≡ and_then r (λ done. Ok (take 472 (read_entries l)))
     go (Ok done) e = absurd cc
     go (Err g) e = cc
+
+-- after so many values were filled
+pub filled : (n : ℕ) (values ys rest : List Float) (x : Float) → length values ≡ 472 → n ≤ 472 → ys ≡ replicate (length (take n values)) x
+    → entries_of (record { values = ys ++ rest; count = n }) ≡ replicate n x
+unfolding entries_of
+filled n values ys rest x long room is =
+    let whole : length (take n values) ≡ n = omega (arith, length-take n values) in
+    rw (le-leb n 472 room, is, whole) (take_at (replicate n x) rest n (length-replicate n x))
+
+-- where there is no room for as many
+pub dropped : (values : List Float) (n : ℕ) → 472 < n → entries_of (record { values = values; count = n }) ≡ []
+unfolding entries_of
+dropped values n more = grind (arith, common_steps)
+
+-- those that are lent, and none where the number is above the places'
+pub lent : (values : List Float) (n : ℕ) (r : Option (Bor (List Float))) (none : Bor (List Float)) → length values ≡ 472 → none.now ≡ []
+    → PartBy (λ (x : Bor (List Float)). x.now) values 0 n r → (unwrap_or r none).now ≡ entries_of (record { values = values; count = n })
+unfolding entries_of
+lent values n None none long is h = grind (arith, common_steps)
+lent values n (Some x) none long is h = grind (arith, common_steps)

@@ -83,3 +83,7 @@ described_by (Err f) w = Err f
 abbrev pub entries_by : Result Unit Fault → Entries → Result (List Float) Fault
 entries_by (Ok done) e = Ok (entries_of e)
 entries_by (Err f) e = Err f
+
+abbrev pub entries_read : Result Entries Fault → Result (List Float) Fault
+entries_read (Ok e) = Ok (entries_of e)
+entries_read (Err f) = Err f

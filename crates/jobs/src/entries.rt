@@ -1,7 +1,7 @@
 // The entries of a spectrum as a line has them.
-ghost use Rattle.std.specs.Prelude.{◌≡◌, ◌≤◌, [], ◌∷◌};
+ghost use Rattle.std.specs.Prelude.{◌≡◌, ◌≤◌, ◌<◌, cond, ◌==◌, [], ◌∷◌, length};
 ghost use Rattle.text.specs.Line.{left, past_entries};
-ghost use Rattle.jobs.specs.Surface.{entries_of, entries_by, kept, spread};
+ghost use Rattle.jobs.specs.Surface.{entries_of, entries_by, entries_read, kept, spread};
 
 use crate::sizes::ENTRIES_READ;
 use numbers::dense_spectrum::DenseSpectrum;
@@ -9,9 +9,9 @@ use text::faults::Fault;
 use text::line::Line;
 
 // The entries of a spectrum: the first `count` of the values. By hand: a job takes fixed memory, and a Vec would
-// allocate. They are read and changed in place, and what stands behind them is an earlier line's.
-#[derive(Drop)]
-pub(crate) struct Entries {
+// allocate. Those of a surface's line are read and changed in place, and what stands behind them is an earlier line's.
+#[derive(Clone, Copy)]
+pub struct Entries {
     values: [f64; ENTRIES_READ],
     count: usize,
 }
@@ -21,6 +21,32 @@ impl Entries {
         values: [0.0; ENTRIES_READ],
         count: 0,
     };
+
+    #[tactic(auto, unfolding(crate::specs::Surface::entries_of))]
+    pub fn none() -> Entries
+        ensures { entries_of result ≡ [] }
+    {
+        Entries::NONE
+    }
+
+    // A lone entry.
+    pub fn lone(x: f64) -> Entries
+        ensures { entries_of result ≡ x ∷ [] }
+    {
+        let mut entries = Entries::NONE;
+        entries.set_lone(x);
+        entries
+    }
+
+    // Those of a line.
+    pub fn read(line: &mut Line<'_>) -> Result<Entries, Fault>
+        ensures value { entries_read result ≡ kept (left line.old) }
+        ensures rest { left line.new ≡ past_entries (left line.old) }
+    {
+        let mut entries = Entries::NONE;
+        entries.read_in(line)?;
+        Ok(entries)
+    }
 
     // Becomes no entries.
     #[tactic(auto, unfolding(crate::specs::Surface::entries_of))]
@@ -41,7 +67,7 @@ impl Entries {
 
     // Becomes those of a line.
     #[tactic(auto, using(crate::proofs::Kept::kept_read, crate::proofs::Kept::kept_wrong))]
-    pub(crate) fn read(&mut self, line: &mut Line<'_>) -> Result<(), Fault>
+    pub(crate) fn read_in(&mut self, line: &mut Line<'_>) -> Result<(), Fault>
         ensures value { entries_by result self.new ≡ kept (left line.old) }
         ensures rest { left line.new ≡ past_entries (left line.old) }
     {
@@ -50,21 +76,23 @@ impl Entries {
     }
 
     #[tactic(auto, unfolding(crate::specs::Surface::entries_of))]
-    pub(crate) fn spectrum(&self) -> DenseSpectrum<'_>
+    pub fn spectrum(&self) -> DenseSpectrum<'_>
         ensures { result.values.now ≡ entries_of self.now }
     {
         DenseSpectrum::new(self.values.get(..self.count).unwrap_or(&[]))
     }
 
-    // Puts a lone entry at each of so many wavelengths.
+    // Puts a lone entry at each of so many wavelengths. Where these are more than there is room for, it is dropped.
     #[tactic(auto, unfolding(crate::specs::Surface::entries_of, crate::specs::Surface::spread))]
-    pub(crate) fn spread(&mut self, samples: usize)
-        requires { samples ≤ 472 }
-        ensures { entries_of self.new ≡ spread samples (entries_of self.old) }
+    pub fn spread(&mut self, samples: usize)
+        ensures within { samples ≤ 472 → entries_of self.new ≡ spread samples (entries_of self.old) }
+        ensures past { 472 < samples → entries_of self.new ≡ cond (length (entries_of self.old) == 1) [] (entries_of self.old) }
     {
         if self.count == 1 {
             let x = self.values[0];
-            self.values[..samples].fill(x);
+            if samples <= ENTRIES_READ {
+                self.values[..samples].fill(x);
+            }
             self.count = samples;
         }
     }

@@ -3,10 +3,12 @@
 #![tactic(auto)]
 
 pub mod answering;
-mod entries;
+pub mod entries;
 pub mod failure;
 pub mod file;
 mod input;
 pub mod places;
 pub mod sizes;
 pub mod surface;
+#[cfg(test)]
+mod tests;

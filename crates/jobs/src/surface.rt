@@ -1,16 +1,18 @@
 // A surface as a job's line has it.
-ghost use Rattle.std.specs.Prelude.{◌≡◌, ◌≤◌};
+ghost use Rattle.std.specs.Prelude.{◌≡◌, ◌≤◌, codes};
+ghost use Rattle.text.specs.declared.faults.Indices.{Indices};
 ghost use Rattle.text.specs.Line.{left, past_word};
-ghost use Rattle.book.specs.Record.{MadeIn};
+ghost use Rattle.numbers.specs.Refusal.{answer};
+ghost use Rattle.book.specs.Record.{MadeIn, answer_offered};
 ghost use Rattle.jobs.specs.Surface.{entries_of, samples, kind, outer, past_outer, surface, described, described_by, entries_by, spread_all};
-ghost use Rattle.jobs.specs.Making.{offered_by, HeldAs};
+ghost use Rattle.jobs.specs.Making.{offered_by, HeldAs, read, read_by};
 
 use crate::entries::Entries;
 use crate::places::Places;
 use crate::sizes;
 use book::record::Record;
 use numbers::dense_spectrum::DenseSpectrum;
-use numbers::refusal::Check;
+use numbers::refusal::{Check, Refusal};
 use optics::microfacet::{Kind, Spectra};
 use text::faults::{Fault, Wrong};
 use text::line::Line;
@@ -65,7 +67,7 @@ impl Words {
     {
         self.outer.set_lone(1.0);
         if line.optional(b"outer") {
-            self.outer.read(line)?;
+            self.outer.read_in(line)?;
         }
         match self.kind {
             Kind::Metal => self.outer.clear(),
@@ -115,9 +117,9 @@ impl Words {
         self.two_sided = line.optional(b"two-sided");
         self.given = line.number()?;
         line.keyword(b"eta", Wrong::Eta)?;
-        self.eta.read(line)?;
+        self.eta.read_in(line)?;
         line.keyword(b"k", Wrong::K)?;
-        self.k.read(line)?;
+        self.k.read_in(line)?;
         self.read_outer(line)?;
         line.end()?;
         self.spread();
@@ -137,10 +139,30 @@ impl Words {
         Record::make_in(place, self.kind, self.two_sided, self.given, &spectra)
     }
 
+    // The surface that is made, or why it is refused.
+    fn made(&self) -> Result<Record, Refusal>
+        ensures { answer_offered (answer result) ≡ offered_by (described self.now) }
+    {
+        let mut place = None;
+        self.make_in(&mut place)?;
+        Ok(place.unwrap())
+    }
+
     // Makes the surface, and holds it as `i`. One that is refused leaves what is held as it was.
     pub fn keep(&self, i: u64, surfaces: &mut Places<Record, { sizes::SURFACES }>) -> Check
         ensures { HeldAs 64 i (offered_by (described self.now)) result surfaces.old.held surfaces.new.held }
     {
         self.make_in(&mut surfaces.held[i as usize % sizes::SURFACES])
     }
+}
+
+// The index that a line names, and the surface that is made for it, or why it is refused.
+#[tactic(auto, unfolding(crate::specs::Making::read))]
+pub fn read(line: &mut Line<'_>) -> Result<(u64, Result<Record, Refusal>), Fault>
+    ensures { (of : Indices) × ((of.count ≡ 64) × ((of.whose.now ≡ codes "a surface's") × (read_by result ≡ read of (left line.old)))) }
+{
+    let i = line.index(sizes::SURFACE)?;
+    let mut words = Words::NONE;
+    words.read(line)?;
+    Ok((i, words.made()))
 }
