@@ -1,5 +1,5 @@
--- What places hold after the entries of a line were read to them: those that are kept of it (`kept_read`), or what is wrong (`kept_wrong`); after they were filled (`filled`) or not (`dropped`); what they lend (`lent`).
-use Rattle.std.proofs.Common.{◌≡◌, ℕ, ◌<◌, ◌≤◌, Option, Some, None, Bor, unwrap_or, [], Result, Ok, Err, List, length, take, drop, ◌++◌, replicate, take_at, min, le-leb, arith, ap, Float}
+-- What places hold after the entries of a line were read to them: those that are kept of it (`kept_read`), or what is wrong (`kept_wrong`); after they were filled (`filled`); what they lend (`lent`).
+use Rattle.std.proofs.Common.{◌≡◌, ℕ, ◌≤◌, Option, Some, None, Bor, unwrap_or, [], Result, Ok, Err, List, length, take, drop, ◌++◌, replicate, take_at, min, le-leb, arith, ap, Float}
 use Rattle.std.specs.List.{PartBy}
 use Rattle.std.proofs.lemmas.Grind.{common_steps}
 use Rattle.std.proofs.lemmas.List.{take_min, length-take, length-replicate}
@@ -45,11 +45,6 @@ unfolding entries_of
 filled n values ys rest x long room is =
     let whole : length (take n values) ≡ n = omega (arith, length-take n values) in
     rw (le-leb n 472 room, is, whole) (take_at (replicate n x) rest n (length-replicate n x))
-
--- where there is no room for as many
-pub dropped : (values : List Float) (n : ℕ) → 472 < n → entries_of (record { values = values; count = n }) ≡ []
-unfolding entries_of
-dropped values n more = grind (arith, common_steps)
 
 -- those that are lent, and none where the number is above the places'
 pub lent : (values : List Float) (n : ℕ) (r : Option (Bor (List Float))) (none : Bor (List Float)) → length values ≡ 472 → none.now ≡ []

@@ -89,10 +89,12 @@ impl Entries {
         ensures past { 472 < samples → entries_of self.new ≡ cond (length (entries_of self.old) == 1) [] (entries_of self.old) }
     {
         if self.count == 1 {
-            let x = self.values[0];
-            if samples <= ENTRIES_READ {
-                self.values[..samples].fill(x);
+            if samples > ENTRIES_READ {
+                self.count = 0;
+                return;
             }
+            let x = self.values[0];
+            self.values[..samples].fill(x);
             self.count = samples;
         }
     }

@@ -30,8 +30,8 @@ fn kind(line: &mut Line<'_>) -> Result<Kind, Fault>
     }
 }
 
-// What a line has of a surface. One lives as long as a job is read, and each line is read into it: its spectra are large, and
-// where they were cleared, or handed on by value, that took longer than all else.
+// What a line has of a surface. In a program one lives as long as a job is read, and each line is read into it: its
+// spectra are large, and where they were cleared, or handed on by value, that took longer than all else.
 #[derive(Drop)]
 pub struct Words {
     kind: Kind,

@@ -1,4 +1,4 @@
-// What callers in Rattle have of a surface's words, and no program calls as it stands.
+// What no program calls: `Entries::none`, `lone` and `read`, `surface::read` and book's `Record::made`.
 use crate::entries::Entries;
 use crate::surface;
 use book::record::Record;
