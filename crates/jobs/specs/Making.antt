@@ -1,5 +1,5 @@
 -- What is made of the surface that a line has, and held. Definitions only.
-use Rattle.std.specs.Prelude.{◌≡◌, ℕ, Option, Result, Ok, Err, MatchResult, List}
+use Rattle.std.specs.Prelude.{◌≡◌, ℕ, Option, Result, Ok, MatchResult, List}
 use Rattle.numbers.specs.Refusal.{Answer, refused, given, number, answer}
 use Rattle.numbers.specs.declared.refusal.Refusal.{Refusal}
 use Rattle.book.specs.declared.record.Record.{Record}

@@ -85,5 +85,4 @@ entries_by (Ok done) e = Ok (entries_of e)
 entries_by (Err f) e = Err f
 
 abbrev pub entries_read : Result Entries Fault → Result (List Float) Fault
-entries_read (Ok e) = Ok (entries_of e)
-entries_read (Err f) = Err f
+entries_read r = and_then r (λ e. Ok (entries_of e))
